@@ -1,0 +1,4 @@
+pub mod formers
+pub mod Modes
+pub mod Grammar
+pub mod Reading
