@@ -1,0 +1,4 @@
+pub mod Pure
+pub mod Fields
+pub mod Matching
+pub mod Examples
