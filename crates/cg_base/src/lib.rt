@@ -1,18 +1,23 @@
 //! What all layers share: texts, lists, forms, refusals, modes and numbers.
 #![tactic(auto)]
 
+mod arithmetic;
+mod bytes;
 mod form;
 mod kind;
 mod list;
 mod mode;
 mod number;
+mod operation;
 mod refusal;
 mod text;
 
+pub use bytes::{number_at, put_number};
 pub use form::{Form, Forms, Top};
 pub use kind::Kind;
 pub use list::List;
 pub use mode::{Endian, Mode, bits, signed};
-pub use number::decimal;
+pub use number::{decimal, hex, read_number};
+pub use operation::{BinaryOp, DivideByZero, TernaryOp, UnaryOp, binary, convert, ternary, unary};
 pub use refusal::{NoMemory, Refusal, Stop};
 pub use text::Text;

@@ -1,0 +1,17 @@
+-- Each operation on values of a mode gives a value of that mode.
+use Rattle.std.proofs.Common.{◌≢◌, ◌<◌, ◌≤◌, refl, arith}
+use Rattle.cg_base.specs.declared.mode.Mode.{Mode}
+use Rattle.cg_base.specs.declared.mode.Mode.TheVariants.{Bi, Qi, Hi, Si, Di, Uqi, Uhi, Usi, Udi, Void}
+use Rattle.cg_base.specs.Modes.{bits_of}
+
+pub some_bits : (mode : Mode) → mode ≢ Void → (0 < bits_of mode) × (bits_of mode ≤ 64)
+some_bits Bi h = (omega arith, omega arith)
+some_bits Qi h = (omega arith, omega arith)
+some_bits Hi h = (omega arith, omega arith)
+some_bits Si h = (omega arith, omega arith)
+some_bits Di h = (omega arith, omega arith)
+some_bits Uqi h = (omega arith, omega arith)
+some_bits Uhi h = (omega arith, omega arith)
+some_bits Usi h = (omega arith, omega arith)
+some_bits Udi h = (omega arith, omega arith)
+some_bits Void h = absurd (h refl)
