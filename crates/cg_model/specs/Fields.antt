@@ -1,7 +1,6 @@
 -- Where a field lies in an instruction's bytes, and what it and a multi field give.
-use Rattle.std.specs.Prelude.{ℕ, ◌+◌, ◌-◌, ◌*◌, ◌/◌, ◌%◌, ◌^◌, nat_lt, if◌then◌else◌, List, [], ◌∷◌, reverse, take, drop, ℤ, pos, ◌-ℤ◌, Option, Some, None, slice_get}
-use Rattle.cg_base.specs.declared.Endian.{Endian}
-use Rattle.cg_base.specs.declared.Endian.TheVariants.{Big, Little}
+use Rattle.std.specs.Prelude.{ℕ, ◌-◌, ◌/◌, ◌%◌, ◌^◌, nat_lt, if◌then◌else◌, List, drop, ℤ, pos, ◌-ℤ◌, Option, Some, None, slice_get}
+use Rattle.cg_base.specs.Bytes.{number_of}
 use Rattle.cg_base.specs.Modes.{bits_of, is_signed}
 use Rattle.cg_base.specs.Operations.{wrapped}
 use Rattle.cg_model.specs.declared.field.Field.{Field}
@@ -9,19 +8,9 @@ use Rattle.cg_model.specs.declared.field.Multi.{Multi}
 use Rattle.cg_model.specs.declared.machine.Machine.{Machine}
 use Rattle.cg_model.specs.Pure.{Judged, judged, no_value, Around, pure_value}
 
--- The number that bytes are, the first one the most significant, behind those of n.
-abbrev pub number_from : ℕ → List ℕ → ℕ
-number_from n [] = n
-number_from n (b ∷ bs) = number_from (n * 256 + b) bs
-
--- The number that bytes are in an order.
-abbrev pub number_of : Endian → List ℕ → ℕ
-number_of Big bytes = number_from 0 bytes
-number_of Little bytes = number_from 0 (reverse bytes)
-
 -- The number of the word that holds a field.
 abbrev pub word_of : Machine → Field → List ℕ → ℕ
-word_of m f bytes = number_of m.insn_endian (take (f.word_bits / 8) (drop (f.word_offset / 8) bytes))
+word_of m f bytes = number_of m.insn_endian (f.word_bits / 8) (drop (f.word_offset / 8) bytes)
 
 -- The field's bits as a number.
 abbrev pub bits_at : Machine → Field → List ℕ → ℕ
