@@ -64,9 +64,12 @@ pub trait Files {
     fn read(&mut self, alloc: Global, name: &Text, limit: u64) -> Result<Vec<u8>, FileFault>
         ensures bound { IfOk result (λ bytes. length bytes.items ≤ limit) }
         ensures bytes { IfOk result (λ bytes. HasBytes (held self.old) name.now bytes.items) }
-        ensures missing { IsErrOf result FileFault.Missing → Lacks (held self.old) name.now ⊎ Rose (faults self.old) (faults self.new) }
-        ensures long { IsErrOf result FileFault.TooLong → HasMore (held self.old) name.now limit ⊎ Rose (faults self.old) (faults self.new) }
-        ensures failed { IsErrOf result FileFault.Failed → Rose (faults self.old) (faults self.new) }
+        ensures missing { IsErrOf result FileFault.Missing →
+            Lacks (held self.old) name.now ⊎ Rose (faults self.old) (faults self.new) }
+        ensures long { IsErrOf result FileFault.TooLong →
+            HasMore (held self.old) name.now limit ⊎ Rose (faults self.old) (faults self.new) }
+        ensures failed { IsErrOf result FileFault.Failed →
+            Rose (faults self.old) (faults self.new) }
         ensures same { held self.new ≡ held self.old }
         ensures later { faults self.old ≤ faults self.new };
 
@@ -74,7 +77,9 @@ pub trait Files {
     /// where the outside failed, this name's bytes are left open.
     fn write(&mut self, alloc: Global, name: &Text, bytes: &[u8]) -> Result<(), WriteFault>
         ensures ok { OnOk result (held self.new ≡ written (held self.old) name.now bytes.now) }
-        ensures failed { IsErrOf result WriteFault.Failed → Rose (faults self.old) (faults self.new) × KeepsOthers (held self.old) (held self.new) name.now }
+        ensures failed { IsErrOf result WriteFault.Failed →
+            Rose (faults self.old) (faults self.new)
+            × KeepsOthers (held self.old) (held self.new) name.now }
         ensures memory { IsErrOf result WriteFault.NoMemory → held self.new ≡ held self.old }
         ensures tells { is_some (held self.new) ≡ is_some (held self.old) }
         ensures later { faults self.old ≤ faults self.new };
@@ -92,7 +97,8 @@ pub trait Sink {
     fn put(&mut self, piece: &[u8]) -> Result<(), WriteFault>
         ensures ok { OnOk result (wrote self.new ≡ appended (wrote self.old) piece.now) }
         ensures err { OnErr result (AppendsFront (wrote self.old) (wrote self.new) piece.now) }
-        ensures failed { IsErrOf result WriteFault.Failed → Rose (faults self.old) (faults self.new) }
+        ensures failed { IsErrOf result WriteFault.Failed →
+            Rose (faults self.old) (faults self.new) }
         ensures tells { is_some (wrote self.new) ≡ is_some (wrote self.old) }
         ensures later { faults self.old ≤ faults self.new };
 }
