@@ -1,5 +1,4 @@
 ghost use Rattle.std.specs.Prelude.{◌≡◌, ◌⊎◌, ◌≤◌, ℕ, List, Option, length, is_some, IfOk, OnOk, OnErr, IsErrOf};
-ghost use Rattle.cg_io.specs.declared.files.WriteFault.TheVariants.{NoMemory};
 ghost use Rattle.cg_io.specs.Causes.{Rose};
 ghost use Rattle.cg_io.specs.Held.{Held, HasBytes, Lacks, HasMore, written, KeepsOthers, appended, AppendsFront};
 
@@ -35,7 +34,32 @@ pub enum WriteFault {
     NoMemory,
 }
 
+impl From<NoMemory> for FileFault {
+    ghost use Rattle.std.specs.Prelude.{◌≡◌};
+    ghost use Rattle.cg_io.specs.declared.files.FileFault.TheVariants.{NoMemory};
+
+    ghost from_gives = { λ _ fault. fault ≡ NoMemory };
+
+    fn from(_: NoMemory) -> Self {
+        FileFault::NoMemory
+    }
+}
+
+impl From<AllocError> for FileFault {
+    ghost use Rattle.std.specs.Prelude.{◌≡◌};
+    ghost use Rattle.cg_io.specs.declared.files.FileFault.TheVariants.{NoMemory};
+
+    ghost from_gives = { λ _ fault. fault ≡ NoMemory };
+
+    fn from(_: AllocError) -> Self {
+        FileFault::NoMemory
+    }
+}
+
 impl From<NoMemory> for WriteFault {
+    ghost use Rattle.std.specs.Prelude.{◌≡◌};
+    ghost use Rattle.cg_io.specs.declared.files.WriteFault.TheVariants.{NoMemory};
+
     ghost from_gives = { λ _ fault. fault ≡ NoMemory };
 
     fn from(_: NoMemory) -> Self {
@@ -44,6 +68,9 @@ impl From<NoMemory> for WriteFault {
 }
 
 impl From<AllocError> for WriteFault {
+    ghost use Rattle.std.specs.Prelude.{◌≡◌};
+    ghost use Rattle.cg_io.specs.declared.files.WriteFault.TheVariants.{NoMemory};
+
     ghost from_gives = { λ _ fault. fault ≡ NoMemory };
 
     fn from(_: AllocError) -> Self {

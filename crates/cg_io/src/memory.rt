@@ -97,7 +97,7 @@ impl Files for MemFiles {
                 if bytes.len() as u64 > limit {
                     return Err(FileFault::TooLong);
                 }
-                Vec::from_slice(alloc, bytes).map_err(|_| FileFault::NoMemory)
+                Ok(Vec::from_slice(alloc, bytes)?)
             }
         }
     }
