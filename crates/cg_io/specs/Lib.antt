@@ -1,5 +1,5 @@
 pub mod Causes
 pub mod Held
 pub mod Calls
+pub mod Host
 pub mod Memory
-pub mod MemoryLaws

@@ -20,7 +20,7 @@ pub record MemorySink : Type 0 where
   pub wrote : List ℕ
   pub calls : Calls
 
--- they are stored as the pair of their fields
+-- files are stored as the pair of their fields
 abbrev pub files_code : Coded MemoryFiles
 files_code =
     code_by (Held × Calls) (coded× (code (coded_list coded_ℕ) (coded_list coded_ℕ)) calls_code)
@@ -40,16 +40,16 @@ pair e = (e.name, e.bytes)
 abbrev pub held_by : List Entry → Held
 held_by es = from_entries (map pair (reverse es))
 
--- the bytes that a name has, told within a limit
-abbrev pub told_within : ℕ → Option (List ℕ) → Result (List ℕ) FileFault
-told_within limit None = Err Missing
-told_within limit (Some bytes) = if nat_lt limit (length bytes) then Err TooLong else Ok bytes
+-- a name's bytes, if it has them and they are within the limit
+abbrev pub within : ℕ → Option (List ℕ) → Result (List ℕ) FileFault
+within limit None = Err Missing
+within limit (Some bytes) = if nat_lt limit (length bytes) then Err TooLong else Ok bytes
 
 -- what a reading answers where memory is found and the call doesn't fail
 abbrev pub read_from : Held → List ℕ → ℕ → Result (List ℕ) FileFault
-read_from m name limit = told_within limit (get m name)
+read_from m name limit = within limit (get m name)
 
--- a reading answers this, or that memory ran out
+-- the first is what the second says, or tells that memory ran out
 abbrev pub AnswersOrNoMemory : Result (Vec ℕ Global) FileFault → Result (List ℕ) FileFault → Type 0
 AnswersOrNoMemory (Ok bytes) answer = answer ≡ Ok bytes.items
 AnswersOrNoMemory (Err Missing) answer = answer ≡ Err Missing

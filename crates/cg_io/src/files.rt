@@ -1,5 +1,4 @@
 ghost use Rattle.std.specs.Prelude.{◌≡◌, ◌⊎◌, ◌≤◌, ℕ, List, Option, length, is_some, IfOk, OnOk, OnErr, IsErrOf};
-ghost use Rattle.cg_io.specs.declared.files.WriteFault.TheVariants.{NoMemory};
 ghost use Rattle.cg_io.specs.Causes.{Rose};
 ghost use Rattle.cg_io.specs.Held.{Held, HasBytes, Lacks, HasMore, written, KeepsOthers, appended, AppendsFront};
 
@@ -35,7 +34,32 @@ pub enum WriteFault {
     NoMemory,
 }
 
+impl From<NoMemory> for FileFault {
+    ghost use Rattle.std.specs.Prelude.{◌≡◌};
+    ghost use Rattle.cg_io.specs.declared.files.FileFault.TheVariants.{NoMemory};
+
+    ghost from_gives = { λ _ fault. fault ≡ NoMemory };
+
+    fn from(_: NoMemory) -> Self {
+        FileFault::NoMemory
+    }
+}
+
+impl From<AllocError> for FileFault {
+    ghost use Rattle.std.specs.Prelude.{◌≡◌};
+    ghost use Rattle.cg_io.specs.declared.files.FileFault.TheVariants.{NoMemory};
+
+    ghost from_gives = { λ _ fault. fault ≡ NoMemory };
+
+    fn from(_: AllocError) -> Self {
+        FileFault::NoMemory
+    }
+}
+
 impl From<NoMemory> for WriteFault {
+    ghost use Rattle.std.specs.Prelude.{◌≡◌};
+    ghost use Rattle.cg_io.specs.declared.files.WriteFault.TheVariants.{NoMemory};
+
     ghost from_gives = { λ _ fault. fault ≡ NoMemory };
 
     fn from(_: NoMemory) -> Self {
@@ -44,6 +68,9 @@ impl From<NoMemory> for WriteFault {
 }
 
 impl From<AllocError> for WriteFault {
+    ghost use Rattle.std.specs.Prelude.{◌≡◌};
+    ghost use Rattle.cg_io.specs.declared.files.WriteFault.TheVariants.{NoMemory};
+
     ghost from_gives = { λ _ fault. fault ≡ NoMemory };
 
     fn from(_: AllocError) -> Self {
@@ -64,9 +91,12 @@ pub trait Files {
     fn read(&mut self, alloc: Global, name: &Text, limit: u64) -> Result<Vec<u8>, FileFault>
         ensures bound { IfOk result (λ bytes. length bytes.items ≤ limit) }
         ensures bytes { IfOk result (λ bytes. HasBytes (held self.old) name.now bytes.items) }
-        ensures missing { IsErrOf result FileFault.Missing → Lacks (held self.old) name.now ⊎ Rose (faults self.old) (faults self.new) }
-        ensures long { IsErrOf result FileFault.TooLong → HasMore (held self.old) name.now limit ⊎ Rose (faults self.old) (faults self.new) }
-        ensures failed { IsErrOf result FileFault.Failed → Rose (faults self.old) (faults self.new) }
+        ensures missing { IsErrOf result FileFault.Missing →
+            Lacks (held self.old) name.now ⊎ Rose (faults self.old) (faults self.new) }
+        ensures long { IsErrOf result FileFault.TooLong →
+            HasMore (held self.old) name.now limit ⊎ Rose (faults self.old) (faults self.new) }
+        ensures failed { IsErrOf result FileFault.Failed →
+            Rose (faults self.old) (faults self.new) }
         ensures same { held self.new ≡ held self.old }
         ensures later { faults self.old ≤ faults self.new };
 
@@ -74,7 +104,9 @@ pub trait Files {
     /// where the outside failed, this name's bytes are left open.
     fn write(&mut self, alloc: Global, name: &Text, bytes: &[u8]) -> Result<(), WriteFault>
         ensures ok { OnOk result (held self.new ≡ written (held self.old) name.now bytes.now) }
-        ensures failed { IsErrOf result WriteFault.Failed → Rose (faults self.old) (faults self.new) × KeepsOthers (held self.old) (held self.new) name.now }
+        ensures failed { IsErrOf result WriteFault.Failed →
+            Rose (faults self.old) (faults self.new)
+            × KeepsOthers (held self.old) (held self.new) name.now }
         ensures memory { IsErrOf result WriteFault.NoMemory → held self.new ≡ held self.old }
         ensures tells { is_some (held self.new) ≡ is_some (held self.old) }
         ensures later { faults self.old ≤ faults self.new };
@@ -92,7 +124,8 @@ pub trait Sink {
     fn put(&mut self, piece: &[u8]) -> Result<(), WriteFault>
         ensures ok { OnOk result (wrote self.new ≡ appended (wrote self.old) piece.now) }
         ensures err { OnErr result (AppendsFront (wrote self.old) (wrote self.new) piece.now) }
-        ensures failed { IsErrOf result WriteFault.Failed → Rose (faults self.old) (faults self.new) }
+        ensures failed { IsErrOf result WriteFault.Failed →
+            Rose (faults self.old) (faults self.new) }
         ensures tells { is_some (wrote self.new) ≡ is_some (wrote self.old) }
         ensures later { faults self.old ≤ faults self.new };
 }

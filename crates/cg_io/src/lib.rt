@@ -7,6 +7,8 @@ mod files;
 mod host;
 mod memory;
 mod sink;
+#[cfg(test)]
+mod tests;
 
 pub use files::{FileFault, Files, Sink, WriteFault};
 pub use host::{HostFiles, HostSink};

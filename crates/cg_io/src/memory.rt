@@ -1,9 +1,7 @@
-ghost use Rattle.std.specs.Prelude.{◌≡◌, ◌⊎◌, ◌≤◌, Some, length, is_some, true, false, IfOk, OnOk, OnErr, IsErrOf, Err};
+ghost use Rattle.std.specs.Prelude.{◌≡◌, ◌≤◌, Some, true, false, IfOk, OnOk, OnErr, IsErrOf};
 ghost use Rattle.std.specs.Option.{option_copied};
 ghost use Rattle.std.specs.FinMap as map;
-ghost use Rattle.cg_io.specs.Calls.{no_calls, will_fail, after_call};
-ghost use Rattle.cg_io.specs.Causes.{Rose};
-ghost use Rattle.cg_io.specs.Held.{HasBytes, Lacks, HasMore, written, KeepsOthers};
+ghost use Rattle.cg_io.specs.Calls.{no_calls, will_fail, after_call, faults_of};
 ghost use Rattle.cg_io.specs.Memory.{held_by, read_from, AnswersOrNoMemory};
 
 use crate::calls::Calls;
@@ -60,7 +58,8 @@ impl MemFiles {
         entries: List<Entry>,
         failing: List<u64>,
     ) -> Result<MemFiles, NoMemory>
-        ensures { IfOk result (λ files. files ≡ record { held = held_by entries; calls = no_calls failing }) }
+        ensures { IfOk result (λ files.
+            files ≡ record { held = held_by entries; calls = no_calls failing }) }
     {
         Ok(MemFiles {
             entries,
@@ -79,20 +78,15 @@ impl MemFiles {
 impl Files for MemFiles {
     ghost held = { λ files. Some files.held };
 
-    ghost faults = { λ files. files.calls.faults };
+    ghost faults = { λ files. faults_of files.calls };
 
     fn read(&mut self, alloc: Global, name: &Text, limit: u64) -> Result<Vec<u8>, FileFault>
-        ensures bound { IfOk result (λ bytes. length bytes.items ≤ limit) }
-        ensures bytes { IfOk result (λ bytes. HasBytes (Some self.old.held) name.now bytes.items) }
-        ensures missing { IsErrOf result FileFault.Missing → Lacks (Some self.old.held) name.now ⊎ Rose self.old.calls.faults self.new.calls.faults }
-        ensures long { IsErrOf result FileFault.TooLong → HasMore (Some self.old.held) name.now limit ⊎ Rose self.old.calls.faults self.new.calls.faults }
-        ensures failed { IsErrOf result FileFault.Failed → Rose self.old.calls.faults self.new.calls.faults }
-        ensures same { Some self.new.held ≡ Some self.old.held }
-        ensures later { self.old.calls.faults ≤ self.new.calls.faults }
         // Exactly those calls fail whose numbers were given, and they alone raise the count.
         ensures fails { will_fail self.old.calls ≡ true → IsErrOf result FileFault.Failed }
-        ensures answers { will_fail self.old.calls ≡ false → AnswersOrNoMemory result (read_from self.old.held name.now limit) }
+        ensures answers { will_fail self.old.calls ≡ false →
+            AnswersOrNoMemory result (read_from self.old.held name.now limit) }
         ensures counted { self.new ≡ record self.old { calls = after_call self.old.calls } }
+        ensures later { faults_of self.old.calls ≤ faults_of self.new.calls }
     {
         if self.calls.count() {
             return Err(FileFault::Failed);
@@ -103,22 +97,19 @@ impl Files for MemFiles {
                 if bytes.len() as u64 > limit {
                     return Err(FileFault::TooLong);
                 }
-                Vec::from_slice(alloc, bytes).map_err(|_| FileFault::NoMemory)
+                Ok(Vec::from_slice(alloc, bytes)?)
             }
         }
     }
 
     fn write(&mut self, alloc: Global, name: &Text, bytes: &[u8]) -> Result<(), WriteFault>
-        ensures ok { OnOk result (Some self.new.held ≡ written (Some self.old.held) name.now bytes.now) }
-        ensures failed { IsErrOf result WriteFault.Failed → Rose self.old.calls.faults self.new.calls.faults × KeepsOthers (Some self.old.held) (Some self.new.held) name.now }
-        ensures memory { IsErrOf result WriteFault.NoMemory → Some self.new.held ≡ Some self.old.held }
-        ensures tells { is_some (Some self.new.held) ≡ is_some (Some self.old.held) }
-        ensures later { self.old.calls.faults ≤ self.new.calls.faults }
+        ensures ok { OnOk result (self.new.held ≡ map.insert self.old.held name.now bytes.now) }
+        ensures err { OnErr result (self.new.held ≡ self.old.held) }
         // Exactly those calls fail whose numbers were given, and they alone raise the count.
         ensures fails { will_fail self.old.calls ≡ true → IsErrOf result WriteFault.Failed }
         ensures only { IsErrOf result WriteFault.Failed → will_fail self.old.calls ≡ true }
-        ensures err { OnErr result (self.new.held ≡ self.old.held) }
         ensures counted { self.new.calls ≡ after_call self.old.calls }
+        ensures later { faults_of self.old.calls ≤ faults_of self.new.calls }
     {
         if self.calls.count() {
             return Err(WriteFault::Failed);

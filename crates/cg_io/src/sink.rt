@@ -1,7 +1,5 @@
-ghost use Rattle.std.specs.Prelude.{◌≡◌, ◌≤◌, [], ◌++◌, Some, is_some, true, false, IfOk, OnOk, OnErr, IsErrOf};
-ghost use Rattle.cg_io.specs.Calls.{no_calls, will_fail, after_call};
-ghost use Rattle.cg_io.specs.Causes.{Rose};
-ghost use Rattle.cg_io.specs.Held.{appended, AppendsFront};
+ghost use Rattle.std.specs.Prelude.{◌≡◌, ◌≤◌, [], ◌++◌, Some, true, IfOk, OnOk, OnErr, IsErrOf};
+ghost use Rattle.cg_io.specs.Calls.{no_calls, will_fail, after_call, faults_of};
 
 use crate::calls::Calls;
 use crate::{Sink, WriteFault};
@@ -30,7 +28,8 @@ impl Model for MemSink {
 impl MemSink {
     /// A sink that was given nothing, whose calls with these numbers fail.
     pub fn new(alloc: Global, failing: List<u64>) -> Result<MemSink, NoMemory>
-        ensures { IfOk result (λ sink. sink ≡ record { wrote = []; calls = no_calls failing }) }
+        ensures { IfOk result (λ sink.
+            sink ≡ record { wrote = []; calls = no_calls failing }) }
     {
         Ok(MemSink {
             wrote: Vec::new(alloc),
@@ -49,19 +48,16 @@ impl MemSink {
 impl Sink for MemSink {
     ghost wrote = { λ sink. Some sink.wrote };
 
-    ghost faults = { λ sink. sink.calls.faults };
+    ghost faults = { λ sink. faults_of sink.calls };
 
     fn put(&mut self, piece: &[u8]) -> Result<(), WriteFault>
-        ensures ok { OnOk result (Some self.new.wrote ≡ appended (Some self.old.wrote) piece.now) }
-        ensures err { OnErr result (AppendsFront (Some self.old.wrote) (Some self.new.wrote) piece.now) }
-        ensures failed { IsErrOf result WriteFault.Failed → Rose self.old.calls.faults self.new.calls.faults }
-        ensures tells { is_some (Some self.new.wrote) ≡ is_some (Some self.old.wrote) }
-        ensures later { self.old.calls.faults ≤ self.new.calls.faults }
+        ensures ok { OnOk result (self.new.wrote ≡ self.old.wrote ++ piece.now) }
+        ensures err { OnErr result (self.new.wrote ≡ self.old.wrote) }
         // Exactly those calls fail whose numbers were given, and they alone raise the count.
         ensures fails { will_fail self.old.calls ≡ true → IsErrOf result WriteFault.Failed }
         ensures only { IsErrOf result WriteFault.Failed → will_fail self.old.calls ≡ true }
-        ensures nothing { OnErr result (self.new.wrote ≡ self.old.wrote) }
         ensures counted { self.new.calls ≡ after_call self.old.calls }
+        ensures later { faults_of self.old.calls ≤ faults_of self.new.calls }
     {
         if self.calls.count() {
             return Err(WriteFault::Failed);
