@@ -1,0 +1,12 @@
+//! Reads texts into forms (docs/LANGUAGE.md, "Texts and forms").
+#![tactic(auto)]
+
+mod forms;
+mod kind;
+mod reader;
+mod token;
+
+pub use forms::{one_reading, read};
+
+#[cfg(test)]
+mod tests;
