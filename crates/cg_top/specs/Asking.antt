@@ -1,0 +1,39 @@
+-- What the words of a command ask.
+use Rattle.std.specs.Prelude.{◌≡◌, ℕ, ◌+◌, ◌-◌, ◌*◌, Bool, true, false, ◌&&◌, nat_le, nat_eq, if◌then◌else◌, List, [], ◌∷◌, length, Option, Some, None, codes}
+use Rattle.cg_top.specs.Shape.{◌>>=◌, same, three}
+use Rattle.cg_top.specs.declared.asking.Asked.{Asked}
+use Rattle.cg_top.specs.declared.asking.Command.{Command}
+use Rattle.cg_top.specs.declared.asking.Command.TheVariants.{Decode}
+
+-- The number that a hexadecimal digit stands for.
+abbrev pub digit_of : ℕ → Option ℕ
+digit_of b =
+    if nat_le 48 b && nat_le b 57 then Some (b - 48)
+    else if nat_le 65 b && nat_le b 70 then Some (b - 55)
+    else if nat_le 97 b && nat_le b 102 then Some (b - 87)
+    else None
+
+-- The bytes that hexadecimal digits write, two digits a byte. An odd count of digits writes none.
+abbrev pub bytes_of : List ℕ → Option (List ℕ)
+bytes_of [] = Some []
+bytes_of (a ∷ []) = None
+bytes_of (a ∷ b ∷ rest) = digit_of a >>= λ high. digit_of b >>= λ low. bytes_of rest >>= λ bytes. Some ((16 * high + low) ∷ bytes)
+
+-- The bytes of 2 to 32 digits.
+abbrev pub hex_bytes : List ℕ → Option (List ℕ)
+hex_bytes digits = if nat_le 2 (length digits) && nat_le (length digits) 32 then bytes_of digits else None
+
+-- What `DESC MACH HEX` ask behind `decode`.
+unfoldable pub decode_asked : List (List ℕ) → Option Asked
+decode_asked words = do
+  x ← three words
+  bytes ← hex_bytes x.2
+  Some (record { desc = x.0; mach = x.1; command = Decode bytes })
+
+abbrev pub asked_by : List ℕ → List (List ℕ) → Option Asked
+asked_by command words = if same command (codes "decode") then decode_asked words else None
+
+-- What the words ask: the first is the command.
+abbrev pub asked : List (List ℕ) → Option Asked
+asked [] = None
+asked (command ∷ words) = asked_by command words

@@ -1,0 +1,11 @@
+pub mod Shape
+pub mod Names
+pub mod Asking
+pub mod Gives
+pub mod Thin
+pub mod Matching
+pub mod Loading
+pub mod Fetching
+pub mod Replies
+pub mod Answer
+pub mod Top

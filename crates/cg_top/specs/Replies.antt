@@ -1,0 +1,63 @@
+-- What is printed, and with which status.
+use Rattle.std.specs.Prelude.{◌≡◌, ℕ, List, [], ◌∷◌, ◌++◌, Result, Ok, Err, codes, pos}
+use Rattle.std.specs.Fmt.{signed_decimal}
+use Rattle.cg_base.specs.declared.form.Forms.{Forms}
+use Rattle.cg_base.specs.declared.refusal.Refusal.{Refusal}
+use Rattle.cg_top.specs.declared.asking.Asked.{Asked}
+use Rattle.cg_top.specs.declared.asking.Command.{Command}
+use Rattle.cg_top.specs.declared.asking.Command.TheVariants.{Decode}
+use Rattle.cg_top.specs.declared.fetching.Fetched.{Fetched}
+use Rattle.cg_top.specs.declared.fetching.Fetched.TheVariants.{Read, Refused, Unread}
+use Rattle.cg_top.specs.declared.machine.Machine.{Machine}
+use Rattle.cg_top.specs.declared.replies.Reply.{Reply}
+use Rattle.cg_top.specs.Loading.{loaded}
+use Rattle.cg_top.specs.Matching.{decoded}
+
+abbrev pub reply : ℕ → List (List ℕ) → Reply
+reply status lines = record { status = status; lines = lines }
+
+-- the decimal digits of a number
+abbrev pub decimal_of : ℕ → List ℕ
+decimal_of number = signed_decimal (pos number)
+
+-- a blank and these bytes, where there are any
+abbrev pub behind_blank : List ℕ → List ℕ
+behind_blank [] = []
+behind_blank (byte ∷ bytes) = codes " " ++ byte ∷ bytes
+
+-- How a refusal of the file NAME is printed: `E<number> NAME:<line> <text>`, then a blank and the other text where it
+-- isn't empty.
+abbrev pub refusal_line : List ℕ → Refusal → List ℕ
+refusal_line name refusal =
+    codes "E" ++ decimal_of refusal.number ++ codes " " ++ name ++ codes ":" ++ decimal_of refusal.line ++ codes " " ++ refusal.text
+    ++ behind_blank refusal.other ++ codes "\n"
+
+-- A refusal is one line, with status 1.
+abbrev pub refused : List ℕ → Refusal → Reply
+refused name refusal = reply 1 (refusal_line name refusal ∷ [])
+
+-- A file that can't be read is one line, with status 3.
+abbrev pub cannot_read : List ℕ → Reply
+cannot_read name = reply 3 ((codes "cannot read " ++ name ++ codes "\n") ∷ [])
+
+-- Words that ask nothing are one line, with status 2.
+abbrev pub bad_words : Reply
+bad_words = reply 2 (codes "bad words\n" ∷ [])
+
+-- What a command does with its machine.
+abbrev pub performed : Command → Machine → Reply
+performed (Decode bytes) machine = reply 0 (decoded machine bytes)
+
+abbrev pub performed_on : Asked → Result Machine Refusal → Reply
+performed_on asked (Ok machine) = performed asked.command machine
+performed_on asked (Err refusal) = refused asked.desc refusal
+
+-- What is answered where the description has these forms.
+abbrev pub described : Asked → Forms → Reply
+described asked forms = performed_on asked (loaded forms asked.mach)
+
+-- What is answered by what reading the description gave.
+abbrev pub reply_to : Asked → Fetched → Reply
+reply_to asked (Read forms) = described asked forms
+reply_to asked (Refused refusal) = refused asked.desc refusal
+reply_to asked (Unread name) = cannot_read name

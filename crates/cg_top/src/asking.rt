@@ -1,0 +1,102 @@
+ghost use Rattle.std.specs.Prelude.{◌≡◌, ◌<◌, IfOk, IfSome};
+ghost use Rattle.cg_top.specs.Asking.{digit_of, bytes_of, hex_bytes, decode_asked, asked};
+
+use crate::shape::three;
+use cg_base::{NoMemory, Text};
+use std::alloc::Global;
+
+/// What a machine is asked for.
+#[derive(Debug, Drop)]
+pub enum Command {
+    /// The instructions that match these bytes.
+    Decode(Text),
+}
+
+/// What the words of a command ask (docs/RUNNING.md, "Commands").
+#[derive(Debug, Drop)]
+pub struct Asked {
+    /// The name of the description's file.
+    pub desc: Text,
+    /// The name of the machine.
+    pub mach: Text,
+    /// What the machine is asked for.
+    pub command: Command,
+}
+
+/// What the words ask, or None exactly where they ask nothing.
+pub fn ask_of(alloc: Global, words: &[Text]) -> Result<Option<Asked>, NoMemory>
+    ensures { IfOk result (λ answer. answer ≡ asked words.now) }
+{
+    let Some((command, rest)) = words.split_first() else {
+        return Ok(None);
+    };
+    if command.as_slice() == b"decode".as_slice() {
+        Ok(decode_asked(alloc, rest)?)
+    } else {
+        Ok(None)
+    }
+}
+
+/// What `DESC MACH HEX` ask behind `decode`.
+#[tactic(auto, unfolding(crate::specs::Asking::decode_asked))]
+fn decode_asked(alloc: Global, words: &[Text]) -> Result<Option<Asked>, NoMemory>
+    ensures { IfOk result (λ answer. answer ≡ decode_asked words.now) }
+{
+    let Some((desc, mach, hex)) = three(words) else {
+        return Ok(None);
+    };
+    let Some(bytes) = hex_bytes(alloc, hex.as_slice())? else {
+        return Ok(None);
+    };
+    Ok(Some(Asked {
+        desc: desc.clone()?,
+        mach: mach.clone()?,
+        command: Command::Decode(bytes),
+    }))
+}
+
+/// The bytes of 2 to 32 hexadecimal digits, an even count.
+fn hex_bytes(alloc: Global, digits: &[u8]) -> Result<Option<Text>, NoMemory>
+    ensures { IfOk result (λ answer. answer ≡ hex_bytes digits.now) }
+{
+    if digits.len() < 2 || digits.len() > 32 {
+        Ok(None)
+    } else {
+        Ok(bytes_of(alloc, digits)?)
+    }
+}
+
+/// The bytes that hexadecimal digits write, two digits a byte.
+fn bytes_of(alloc: Global, digits: &[u8]) -> Result<Option<Text>, NoMemory>
+    ensures { IfOk result (λ answer. answer ≡ bytes_of digits.now) }
+{
+    let mut bytes = Text::new(alloc);
+    let mut rest = digits;
+    while let Some((first, after)) = rest.split_first() {
+        let Some((second, after)) = after.split_first() else {
+            return Ok(None);
+        };
+        let Some(high) = digit(*first) else {
+            return Ok(None);
+        };
+        let Some(low) = digit(*second) else {
+            return Ok(None);
+        };
+        bytes.push(16 * high + low)?;
+        rest = after;
+    }
+    Ok(Some(bytes))
+}
+
+/// The number that a hexadecimal digit stands for.
+fn digit(byte: u8) -> Option<u8>
+    ensures value { result ≡ digit_of byte }
+    ensures small { IfSome result (λ number. number < 16) }
+{
+    match byte {
+        b'0'..=b'9' => Some(byte - b'0'),
+        b'A'..=b'F' => Some(byte - b'A' + 10),
+        b'a'..=b'f' => Some(byte - b'a' + 10),
+        _ => None,
+    }
+}

@@ -1,0 +1,16 @@
+//! The top call: from the words of a command to its lines and its status.
+#![tactic(auto)]
+
+mod asking;
+mod fetching;
+mod loading;
+mod machine;
+mod matching;
+mod misfit;
+mod names;
+mod replies;
+mod shape;
+mod thin;
+mod top;
+
+pub use top::cgen;

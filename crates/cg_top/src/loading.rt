@@ -1,0 +1,57 @@
+ghost use Rattle.std.specs.Prelude.{◌≡◌, IfOk};
+ghost use Rattle.cg_top.specs.Loading.{not_thin, no_machine, Loads, called, loaded};
+
+use crate::machine::Machine;
+use crate::misfit::Misfit;
+use crate::thin::thin_machine;
+use cg_base::{Forms, NoMemory, Refusal, Stop, Text};
+use std::alloc::Global;
+
+/// `E301`: the forms aren't of the thin shape.
+fn not_thin(alloc: Global) -> Result<Refusal, NoMemory>
+    ensures { IfOk result (λ refusal. refusal ≡ not_thin) }
+{
+    Ok(Refusal {
+        number: 301,
+        file: 0,
+        line: 0,
+        text: Text::of(alloc, b"form".as_slice())?,
+        other: Text::new(alloc),
+    })
+}
+
+/// `E318`: there is no machine of this name.
+fn no_machine(alloc: Global, name: &Text) -> Result<Refusal, NoMemory>
+    ensures { IfOk result (λ refusal. refusal ≡ no_machine name.now) }
+{
+    Ok(Refusal {
+        number: 318,
+        file: 0,
+        line: 0,
+        text: name.clone()?,
+        other: Text::new(alloc),
+    })
+}
+
+/// The machine, where it is called so.
+fn called(alloc: Global, machine: Machine, name: &Text) -> Result<Machine, Stop>
+    ensures { Loads result (called machine name.now) }
+{
+    if machine.name.as_slice() == name.as_slice() {
+        Ok(machine)
+    } else {
+        Err(Stop::Refused(no_machine(alloc, name)?))
+    }
+}
+
+/// The machine of this name that the forms describe (docs/REFUSALS.md: E301 where they aren't of
+/// the thin shape, E318 where they are and describe another machine).
+pub fn load(alloc: Global, forms: &Forms, name: &Text) -> Result<Machine, Stop>
+    ensures { Loads result (loaded forms.now name.now) }
+{
+    match thin_machine(alloc, forms.tops.as_slice()) {
+        Ok(machine) => called(alloc, machine, name),
+        Err(Misfit::Shape) => Err(Stop::Refused(not_thin(alloc)?)),
+        Err(Misfit::NoMemory) => Err(Stop::NoMemory),
+    }
+}

@@ -1,0 +1,147 @@
+ghost use Rattle.std.specs.Prelude.{◌≡◌, ◌≤◌, IfOk, OnOk, ◌++◌, ◌∷◌, []};
+ghost use Rattle.cg_io.specs.Causes.{Rose};
+ghost use Rattle.cg_top.specs.Replies.{reply, decimal_of, behind_blank, refusal_line, refused, cannot_read, bad_words, performed, described, reply_to};
+ghost use Rattle.cg_top.specs.Answer.{Answer, Answers};
+
+use crate::asking::{Asked, Command, ask_of};
+use crate::fetching::{Fetched, fetch};
+use crate::loading::load;
+use crate::machine::Machine;
+use crate::matching::decode;
+use cg_base::{Forms, List, NoMemory, Refusal, Stop, Text, decimal};
+use cg_io::Files;
+use std::alloc::Global;
+
+/// What a command is answered: the lines to print, each with its end, and the status.
+#[derive(Debug, Drop)]
+pub struct Reply {
+    /// docs/RUNNING.md, "Statuses".
+    pub status: u8,
+    /// In order.
+    pub lines: List<Text>,
+}
+
+/// A reply of one line.
+fn one_line(alloc: Global, status: u8, line: Text) -> Result<Reply, NoMemory>
+    ensures { IfOk result (λ answer. answer ≡ reply status (line ∷ [])) }
+{
+    let mut lines = List::new(alloc);
+    lines.push(line)?;
+    Ok(Reply { status, lines })
+}
+
+/// Puts bytes behind a blank at the end, where there are any.
+fn append_other(text: &mut Text, other: &[u8]) -> Result<(), NoMemory>
+    ensures { OnOk result (text.new ≡ text.old ++ behind_blank other.now) }
+{
+    if other.is_empty() {
+        return Ok(());
+    }
+    text.push(b' ')?;
+    text.append(other)?;
+    Ok(())
+}
+
+/// Puts the decimal digits of a number at the end.
+fn append_number(alloc: Global, text: &mut Text, number: u32) -> Result<(), NoMemory>
+    ensures { OnOk result (text.new ≡ text.old ++ decimal_of number) }
+{
+    let digits = decimal(alloc, i128::from(number))?;
+    text.append(digits.as_slice())?;
+    Ok(())
+}
+
+/// `E<number> <name>:<line> <text>`, then a blank and the other text where it isn't empty.
+fn refusal_line(alloc: Global, name: &Text, refusal: &Refusal) -> Result<Text, NoMemory>
+    ensures { IfOk result (λ line. line ≡ refusal_line name.now refusal.now) }
+{
+    let mut line = Text::of(alloc, b"E".as_slice())?;
+    append_number(alloc, &mut line, u32::from(refusal.number))?;
+    line.push(b' ')?;
+    line.append(name.as_slice())?;
+    line.push(b':')?;
+    append_number(alloc, &mut line, refusal.line)?;
+    line.push(b' ')?;
+    line.append(refusal.text.as_slice())?;
+    append_other(&mut line, refusal.other.as_slice())?;
+    line.push(b'\n')?;
+    Ok(line)
+}
+
+fn refused(alloc: Global, name: &Text, refusal: &Refusal) -> Result<Reply, NoMemory>
+    ensures { IfOk result (λ answer. answer ≡ refused name.now refusal.now) }
+{
+    let line = refusal_line(alloc, name, refusal)?;
+    one_line(alloc, 1, line)
+}
+
+fn cannot_read(alloc: Global, name: &Text) -> Result<Reply, NoMemory>
+    ensures { IfOk result (λ answer. answer ≡ cannot_read name.now) }
+{
+    let mut line = Text::of(alloc, b"cannot read ".as_slice())?;
+    line.append(name.as_slice())?;
+    line.push(b'\n')?;
+    one_line(alloc, 3, line)
+}
+
+fn bad_words(alloc: Global) -> Result<Reply, NoMemory>
+    ensures { IfOk result (λ answer. answer ≡ bad_words) }
+{
+    let line = Text::of(alloc, b"bad words\n".as_slice())?;
+    one_line(alloc, 2, line)
+}
+
+/// What a command does with its machine.
+fn perform(alloc: Global, command: &Command, machine: &Machine) -> Result<Reply, NoMemory>
+    ensures { IfOk result (λ answer. answer ≡ performed command.now machine.now) }
+{
+    match command {
+        Command::Decode(bytes) => {
+            let lines = decode(alloc, machine, bytes.as_slice())?;
+            Ok(Reply { status: 0, lines })
+        }
+    }
+}
+
+/// What is answered where the description has these forms.
+fn describe(alloc: Global, asked: &Asked, forms: &Forms) -> Result<Reply, NoMemory>
+    ensures { IfOk result (λ answer. answer ≡ described asked.now forms.now) }
+{
+    match load(alloc, forms, &asked.mach) {
+        Ok(machine) => perform(alloc, &asked.command, &machine),
+        Err(Stop::Refused(refusal)) => refused(alloc, &asked.desc, &refusal),
+        Err(Stop::NoMemory) => Err(NoMemory),
+    }
+}
+
+/// What is answered by what reading the description gave.
+fn reply_to(alloc: Global, asked: &Asked, fetched: &Fetched) -> Result<Reply, NoMemory>
+    ensures { IfOk result (λ answer. answer ≡ reply_to asked.now fetched.now) }
+{
+    match fetched {
+        Fetched::Read(forms) => describe(alloc, asked, forms),
+        Fetched::Refused(refusal) => refused(alloc, &asked.desc, refusal),
+        Fetched::Unread(name) => cannot_read(alloc, name),
+    }
+}
+
+/// What the words are answered.
+pub fn answer<F: Files>(alloc: Global, words: &[Text], files: &mut F) -> Result<Reply, NoMemory>
+    ensures answer { IfOk result (λ reply. Answer words.now (F.held files.old) (Rose (F.faults files.old) (F.faults files.new)) reply) }
+    ensures held { F.held files.new ≡ F.held files.old }
+    ensures later { F.faults files.old ≤ F.faults files.new }
+{
+    match ask_of(alloc, words)? {
+        None => Ok(bad_words(alloc)?),
+        Some(asked) => Ok(answer_asked(alloc, &asked, files)?),
+    }
+}
+
+fn answer_asked<F: Files>(alloc: Global, asked: &Asked, files: &mut F) -> Result<Reply, NoMemory>
+    ensures answer { IfOk result (λ reply. Answers asked.now (F.held files.old) (Rose (F.faults files.old) (F.faults files.new)) reply) }
+    ensures held { F.held files.new ≡ F.held files.old }
+    ensures later { F.faults files.old ≤ F.faults files.new }
+{
+    let fetched = fetch(alloc, &asked.desc, files)?;
+    Ok(reply_to(alloc, asked, &fetched)?)
+}

@@ -1,0 +1,59 @@
+ghost use Rattle.std.specs.Prelude.{◌≡◌, ◌⊎◌, ◌≤◌, ◌≢◌, None, OnOk, OnErr, IsErrOf, is_some};
+ghost use Rattle.cg_io.specs.Causes.{Rose};
+ghost use Rattle.cg_io.specs.Held.{appended};
+ghost use Rattle.cg_top.specs.Asking.{asked};
+ghost use Rattle.cg_top.specs.Top.{text_of, IsAnswered, IsUnread};
+
+use crate::replies::answer;
+use cg_base::Text;
+use cg_io::{Files, Sink, WriteFault};
+use std::alloc::Global;
+
+/// Puts the lines, each at once.
+fn tell<K: Sink>(lines: &[Text], out: &mut K) -> Result<(), WriteFault>
+    ensures ok { OnOk result (K.wrote out.new ≡ appended (K.wrote out.old) (text_of lines.now)) }
+    ensures failed { IsErrOf result WriteFault.Failed → Rose (K.faults out.old) (K.faults out.new) }
+    ensures tells { is_some (K.wrote out.new) ≡ is_some (K.wrote out.old) }
+    ensures later { K.faults out.old ≤ K.faults out.new }
+{
+    for line in lines {
+        out.put(line.as_slice())?;
+    }
+    Ok(())
+}
+
+/// Does what the words ask, over these files and this sink, and gives the status
+/// (docs/RUNNING.md, "Statuses"). Each line is one `put`, and ends with byte 10. Status 4, want of
+/// memory, is the one answer that no clause ties to a cause.
+pub fn cgen<F: Files, K: Sink>(alloc: Global, words: &[Text], files: &mut F, out: &mut K) -> u8
+    // Where no count of faults rose and there was memory, the status is the answer's, and its
+    // text was written.
+    ensures headline { (Rose (F.faults files.old) (F.faults files.new) → ⊥) → (Rose (K.faults out.old) (K.faults out.new) → ⊥) → result ≢ 4
+        → IsAnswered words.now (F.held files.old) result (K.wrote out.old) (K.wrote out.new) }
+    // Any status but 3 and 4 is the answer's, and its text was written, whichever count rose.
+    ensures answered { result ≢ 3 → result ≢ 4 → IsAnswered words.now (F.held files.old) result (K.wrote out.old) (K.wrote out.new) }
+    // Status 2 comes exactly where the words ask nothing, a fault of the sink and want of memory
+    // aside.
+    ensures asks { result ≡ 2 → asked words.now ≡ None }
+    ensures bad { asked words.now ≡ None → (Rose (K.faults out.old) (K.faults out.new) → ⊥) → result ≢ 4 → result ≡ 2 }
+    // Status 3 comes exactly where a file that is asked for is lacking or too long, or else only
+    // where a count of faults rose.
+    ensures cause { result ≡ 3 → IsUnread words.now (F.held files.old) ⊎ (Rose (F.faults files.old) (F.faults files.new) ⊎ Rose (K.faults out.old) (K.faults out.new)) }
+    ensures unread { IsUnread words.now (F.held files.old) → (Rose (F.faults files.old) (F.faults files.new) → ⊥) → (Rose (K.faults out.old) (K.faults out.new) → ⊥) → result ≢ 4 → result ≡ 3 }
+    ensures status { result ≤ 4 }
+    // The files stay as they were. Counts of faults never fall, and what told its bytes tells them
+    // still.
+    ensures held { F.held files.new ≡ F.held files.old }
+    ensures tells { is_some (K.wrote out.new) ≡ is_some (K.wrote out.old) }
+    ensures files_later { F.faults files.old ≤ F.faults files.new }
+    ensures sink_later { K.faults out.old ≤ K.faults out.new }
+{
+    let Ok(reply) = answer(alloc, words, files) else {
+        return 4;
+    };
+    match tell(reply.lines.as_slice(), out) {
+        Ok(()) => reply.status,
+        Err(WriteFault::Failed) => 3,
+        Err(WriteFault::NoMemory) => 4,
+    }
+}
