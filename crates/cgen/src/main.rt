@@ -42,10 +42,7 @@ fn main(rt: HostRuntime) -> ExitCode {
     let Ok(words) = words(&rt, alloc) else {
         return ExitCode::from(4);
     };
-    let mut out = HostSink {
-        out: rt.stdout(),
-        faults: 0,
-    };
-    let mut files = HostFiles { rt, faults: 0 };
+    let mut out = HostSink::new(rt.stdout());
+    let mut files = HostFiles::new(rt);
     ExitCode::from(cgen(alloc, words.as_slice(), &mut files, &mut out))
 }
