@@ -6,7 +6,7 @@ use cg_base::{NoMemory, Text};
 use std::alloc::{AllocError, Global};
 use thiserror::Error;
 
-/// Why a file wasn't read. docs/RUNNING.md says which status each makes.
+/// Why a file wasn't read. docs/RUNNING.md, "Statuses", says which status each makes.
 #[derive(Clone, Copy, Debug, PartialEq, Eq, Error)]
 pub enum FileFault {
     /// There is no file of this name.
@@ -23,7 +23,7 @@ pub enum FileFault {
     NoMemory,
 }
 
-/// Why bytes weren't written whole. docs/RUNNING.md says which status each makes.
+/// Why bytes weren't written whole. docs/RUNNING.md, "Statuses", says which status each makes.
 #[derive(Clone, Copy, Debug, PartialEq, Eq, Error)]
 pub enum WriteFault {
     /// The bytes couldn't be written, for a reason outside of the program.
