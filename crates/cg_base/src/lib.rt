@@ -10,6 +10,8 @@ mod mode;
 mod number;
 mod operation;
 mod refusal;
+#[cfg(test)]
+mod tests;
 mod text;
 
 pub use bytes::{number_at, put_number};

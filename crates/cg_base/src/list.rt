@@ -85,13 +85,14 @@ impl<T: Drop> List<T> {
         ensures ok { OnOk result (self.new ≡ self.old ++ x ∷ []) }
         ensures err { OnErr result (self.new ≡ self.old) }
     {
-        self.items.push(x)?;
+        self.push_copy(x)?;
         Ok(())
     }
 
     /// `push`, with the error of the library: what a `clone` answers.
     pub(crate) fn push_copy(&mut self, x: T) -> Result<(), AllocError>
         ensures ok { OnOk result (self.new ≡ self.old ++ x ∷ []) }
+        ensures err { OnErr result (self.new ≡ self.old) }
     {
         self.items.push(x)?;
         Ok(())
