@@ -17,7 +17,7 @@ faults_of_sink sink = sink.faults
 abbrev pub writer_of : {W : Type 0} → HostSink W → W
 writer_of sink = sink.out
 
--- the count after a reading: higher exactly where it answered that the outside failed
+-- the count after a reading: raised exactly where it answered an error but want of memory
 abbrev pub after_read : ℕ → Result (Vec ℕ Global) FileFault → ℕ
 after_read count (Ok bytes) = count
 after_read count (Err file.NoMemory) = count
