@@ -1,4 +1,5 @@
 pub mod formers
 pub mod Modes
 pub mod Grammar
+pub mod Faults
 pub mod Reading

@@ -10,7 +10,7 @@ mod refusal;
 mod text;
 
 pub use form::{Form, Forms, Top};
-pub use kind::Kind;
+pub use kind::{Kind, NoToken};
 pub use list::List;
 pub use mode::{Endian, Mode, bits, signed};
 pub use number::decimal;

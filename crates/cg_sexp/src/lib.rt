@@ -1,9 +1,11 @@
-//! Reads texts into forms (docs/LANGUAGE.md, "Texts and forms").
+//! Reads texts into forms, and prints forms (docs/LANGUAGE.md, "Texts and forms").
 #![tactic(auto)]
 
 mod forms;
 mod kind;
 mod reader;
+mod refused;
+mod stack;
 mod token;
 
 pub use forms::{one_reading, read};
