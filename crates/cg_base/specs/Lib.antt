@@ -3,3 +3,5 @@ pub mod Modes
 pub mod Grammar
 pub mod Faults
 pub mod Reading
+pub mod Printing
+pub mod Clauses

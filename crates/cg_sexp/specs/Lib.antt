@@ -6,5 +6,6 @@ pub mod Stops
 pub mod Front
 pub mod Sound
 pub mod Laws
+pub mod Printed
 pub mod Last
 pub mod Digits

@@ -120,7 +120,7 @@ starts_token-append : (bs rest : List ℕ) → starts_token bs ≡ false → sta
 starts_token-append [] rest h e = e
 starts_token-append (b ∷ bs) rest h e = h
 
-leaf_before : {f : Form} {w bs : List ℕ} → IsLeaf f w bs → (rest : List ℕ) → starts_token rest ≡ false → IsLeaf f w (bs ++ rest)
+pub leaf_before : {f : Form} {w bs : List ℕ} → IsLeaf f w bs → (rest : List ℕ) → starts_token rest ≡ false → IsLeaf f w (bs ++ rest)
 leaf_before (word {f} {rest = bs} w letters at s) rest e = word w letters at (starts_token-append bs rest s e)
 leaf_before (quoted w x) rest e = quoted w x
 
