@@ -1,7 +1,10 @@
 pub mod formers
 pub mod Modes
-pub mod Grammar
-pub mod Reading
 pub mod Operations
 pub mod Bytes
 pub mod Numerals
+pub mod Grammar
+pub mod Faults
+pub mod Reading
+pub mod Printing
+pub mod Clauses

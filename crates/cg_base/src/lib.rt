@@ -16,7 +16,7 @@ mod text;
 
 pub use bytes::{number_at, put_number};
 pub use form::{Form, Forms, Top};
-pub use kind::Kind;
+pub use kind::{Kind, NoToken};
 pub use list::List;
 pub use mode::{Endian, Mode, bits, signed};
 pub use number::{decimal, hex, read_number};

@@ -67,6 +67,13 @@ impl Text {
         Ok(())
     }
 
+    /// Takes all bytes out. The memory stays for those that come.
+    pub fn clear(&mut self)
+        ensures { self.new ≡ [] }
+    {
+        self.bytes.clear();
+    }
+
     /// The bytes in order.
     pub fn as_slice(&self) -> &[u8]
         ensures { result.now ≡ self.now }

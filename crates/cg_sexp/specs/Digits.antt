@@ -1,15 +1,11 @@
 -- How a number grows with its digits.
-use Rattle.std.specs.Prelude.{◌≡◌, ℕ, ◌+◌, ◌-◌, ◌*◌, ◌<◌, ◌≤◌, List, [], ◌∷◌, length, refl}
-use Rattle.std.proofs.Common.{arith, get_or, drop, add-one, drop-cons, subst, sym}
-use Rattle.cg_base.specs.Grammar.{value_from}
+use Rattle.std.specs.Prelude.{◌≡◌, ℕ, ◌+◌, ◌*◌, ◌<◌, ◌≤◌, List, length}
+use Rattle.std.specs.Char.{digit_value}
+use Rattle.std.specs.Str.Parse.{digits_value}
+use Rattle.std.proofs.Common.{get_or, take, sym}
+use Rattle.std.proofs.lemmas.Int.Digits.{digits_value_more}
+use Rattle.std.proofs.lemmas.Str.Parse.{digits_value-take-le}
 
-pub value_from-le : (n : ℕ) (bs : List ℕ) → n ≤ value_from n bs
-value_from-le n [] = omega arith
-value_from-le n (b ∷ bs) = omega (arith, value_from-le (10 * n + (b - 48)) bs)
-
-pub value_from-drop : (n i : ℕ) (bs : List ℕ) → i < length bs → value_from n (drop i bs) ≡ value_from (10 * n + (get_or bs i 0 - 48)) (drop (i + 1) bs)
-value_from-drop n i bs h = rw (drop-cons bs i 0, add-one)
-
--- the next digit takes the number past a bound
-pub value_from-over : (n i bound : ℕ) (bs : List ℕ) → i < length bs → bound ≤ 10 * n + (get_or bs i 0 - 48) → bound ≤ value_from n (drop i bs)
-value_from-over n i bound bs h g = rw (value_from-drop n i bs h) (omega (arith, g, value_from-le (10 * n + (get_or bs i 0 - 48)) (drop (i + 1) bs)))
+-- with one digit more a number is at most what it is with all
+pub grows : (base n i : ℕ) (ds : List ℕ) → 1 ≤ base → i < length ds → n ≡ digits_value base (take i ds) → n * base + digit_value (get_or ds i 0) ≤ digits_value base ds
+grows base n i ds one h e = rw (e, sym (digits_value_more base ds i h)) (digits_value-take-le base ds (i + 1) one)

@@ -1,8 +1,11 @@
-pub mod Unplaced
 pub mod Machine
 pub mod Held
-pub mod Starts
+pub mod Refused
 pub mod Taken
+pub mod Stops
+pub mod Front
 pub mod Sound
+pub mod Laws
+pub mod Printed
+pub mod Last
 pub mod Digits
-pub mod Lines

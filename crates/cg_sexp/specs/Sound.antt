@@ -1,209 +1,171 @@
--- What is taken is spelled.
-use Rattle.std.specs.Prelude.{◌≡◌, ℕ, suc, ◌+◌, Bool, true, false, ◌==◌, nat_lt, List, [], ◌∷◌, ◌++◌, length, Option, Some, None, refl}
-use Rattle.std.specs.Option.{option_and_then}
+-- What the reader's steps give is spelled, and where they stop is the first fault.
+use Rattle.std.specs.Prelude.{◌≡◌, ℕ, suc, ◌+◌, ◌<◌, ◌≤◌, Bool, true, false, ◌==◌, nat_lt, List, [], ◌∷◌, ◌++◌, length, Option, Some, None, Result, Ok, Err, codes, refl}
 use Rattle.std.proofs.Common.{zero, arith, append_assoc, ◌∙◌, ap, sym, subst}
-use Rattle.std.proofs.lemmas.List.{append-nil}
-use Rattle.std.proofs.lemmas.Bool.{ltb-true, eqb-true}
-use Rattle.std.proofs.lemmas.Bool.Decides.{nat_tests}
-use Rattle.std.proofs.lemmas.Grind.{common_steps}
+use Rattle.std.proofs.lemmas.List.{append-nil, length-append}
+use Rattle.std.proofs.lemmas.Bool.{ltb-true, ltb-false}
 use Rattle.cg_base.specs.declared.form.Form.{Form}
-use Rattle.cg_base.specs.declared.form.Form.TheVariants.{Str, Items}
-use Rattle.cg_base.specs.declared.kind.Kind.{Kind}
-use Rattle.cg_base.specs.declared.kind.Kind.TheVariants.{Blank, Letter, Opening, Closing, Quote, Foreign}
-use Rattle.cg_base.specs.Grammar.{kind_of, is_letter, AreLetters, is_string_byte, AreStringBytes, atom, starts_word}
-use Rattle.cg_sexp.specs.Unplaced.{Spell, done, blank, word, quoted, list}
-use Rattle.cg_sexp.specs.Machine.{State, between, in_word, in_string, ends, read_all, apart, word_step, string_step, settled, whole, finish}
+use Rattle.cg_base.specs.declared.form.Form.TheVariants.{Items}
+use Rattle.cg_base.specs.declared.form.Top.{Top}
+use Rattle.cg_base.specs.declared.refusal.Refusal.{Refusal}
+use Rattle.cg_base.specs.Grammar.{Spells, done, space, leaf, list, IsSpace, IsLeaf, word, quoted, starts_token, line_after}
+use Rattle.cg_base.specs.Faults.{Offends, open_list, no_list_is_open, too_deep, Faults, here, behind_space, behind_leaf, behind_opening, behind_closing, refusal}
+use Rattle.cg_sexp.specs.declared.stack.Open.{Open}
+use Rattle.cg_sexp.specs.Machine.{and_then, Nest, put, pushed, opened, closed, put_in, closed_in, whole, whole_in, between, ends}
+use Rattle.cg_sexp.specs.Taken.{line_after-append, space_taken, leaf_taken, puts, depth, put_depth, list_closed}
+use Rattle.cg_sexp.specs.Stops.{lines_of, lines_length, put_lines, put_file, offence_stops}
+use Rattle.cg_sexp.specs.Front.{line_ends, line_ends-append, ends_anyway, Front, nothing, at_space, at_leaf, at_opening, at_closing, at_fault, front}
 
--- what the bytes that are left give, where these forms stand in the open lists
-abbrev pub Tail : ℕ → List Form → List (List Form) → List ℕ → List Form → Type 0
-Tail n inner [] bs fs = (more : List Form) × Spell n more bs × (fs ≡ inner ++ more)
-Tail n inner (o ∷ os) bs fs = (more : List Form) × (ms : List ℕ) × (rest : List ℕ) × Spell n more ms × (bs ≡ ms ++ 41 ∷ rest) × Tail (suc n) (o ++ Items (inner ++ more) ∷ []) os rest fs
+-- The bytes that are left close the d lists that are open, and the text has these forms then. Lists may be k deep within.
+pub data Tail : ℕ → ℕ → ℕ → Nest → List ℕ → List Top → Type 0 where
+  last : {k l : ℕ} {n : Nest} {fs : List Form} {ls bs : List ℕ} {tops : List Top} → Spells k l fs ls bs → whole (puts fs ls n) ≡ Ok tops → Tail 0 k l n bs tops
+  closes : {d k l : ℕ} {n m : Nest} {fs : List Form} {ls ms rest : List ℕ} {tops : List Top} (q : ℕ) → line_after l ms ≡ q → Spells k l fs ls ms → closed q (puts fs ls n) ≡ Ok m → Tail d (suc k) q m rest tops → Tail (suc d) k l n (ms ++ 41 ∷ rest) tops
 
-pub record WordTail (v : List ℕ) (n : ℕ) (inner : List Form) (outer : List (List Form)) (bs : List ℕ) (fs : List Form) : Type 0 where
-  pub form : Form
-  pub more : List ℕ
-  pub rest : List ℕ
-  pub letters : AreLetters more
-  pub split : bs ≡ more ++ rest
-  pub ends_here : starts_word rest ≡ false
-  pub spelled : atom (v ++ more) ≡ Some form
-  pub tail : Tail n (inner ++ form ∷ []) outer rest fs
+starts_token-front : (xs ys : List ℕ) → starts_token (xs ++ ys) ≡ false → starts_token xs ≡ false
+starts_token-front [] ys h = refl
+starts_token-front (x ∷ xs) ys h = h
 
-pub record StringTail (v : List ℕ) (n : ℕ) (inner : List Form) (outer : List (List Form)) (bs : List ℕ) (fs : List Form) : Type 0 where
-  pub more : List ℕ
-  pub rest : List ℕ
-  pub all : AreStringBytes more
-  pub split : bs ≡ more ++ 34 ∷ rest
-  pub tail : Tail n (inner ++ Str (v ++ more) ∷ []) outer rest fs
+leaf-front : {f : Form} {w bs : List ℕ} → IsLeaf f w bs → (xs ys : List ℕ) → bs ≡ xs ++ ys → IsLeaf f w xs
+leaf-front (word w letters at s) xs ys e = word w letters at (starts_token-front xs ys (ap starts_token (sym e) ∙ s))
+leaf-front (quoted w x) xs ys e = quoted w x
 
-pub record IsSound (bs : List ℕ) : Type 0 where
-  pub at_between : (n : ℕ) (inner : List Form) (outer : List (List Form)) (fs : List Form) → length outer + n ≡ 200 → ends (between inner outer) bs ≡ Some fs → Tail n inner outer bs fs
-  pub at_word : (c : ℕ) (v : List ℕ) (n : ℕ) (inner : List Form) (outer : List (List Form)) (fs : List Form) → length outer + n ≡ 200 → ends (in_word (c ∷ v) inner outer) bs ≡ Some fs → WordTail (c ∷ v) n inner outer bs fs
-  pub at_string : (v : List ℕ) (n : ℕ) (inner : List Form) (outer : List (List Form)) (fs : List Form) → length outer + n ≡ 200 → ends (in_string v inner outer) bs ≡ Some fs → StringTail v n inner outer bs fs
+space_tail : {d k l : ℕ} {n : Nest} {bs : List ℕ} {tops : List Top} (w : List ℕ) → IsSpace w → Tail d k (line_after l w) n bs tops → Tail d k l n (w ++ bs) tops
+space_tail w x (last s e) = last (space w x s) e
+space_tail {d} {k} {l} {n} {bs} {tops} w x (closes {d = p} {ms} {rest} q e s c t) =
+    let P : List ℕ → Type 0 = λ xs. Tail (suc p) k l n xs tops in
+    subst P (append_assoc w ms (41 ∷ rest)) (closes q (line_after-append l w ms ∙ e) (space w x s) c t)
 
-prepend : (n : ℕ) (f : Form) (p : List ℕ) (inner : List Form) (outer : List (List Form)) (bs : List ℕ) (fs : List Form) →
-    ((ts : List Form) (front back : List ℕ) → front ++ back ≡ bs → Spell n ts front → Spell n (f ∷ ts) (p ++ front)) →
-    Tail n (inner ++ f ∷ []) outer bs fs → Tail n inner outer (p ++ bs) fs
-prepend n f p inner [] bs fs grow t = (f ∷ t.0, grow t.0 bs [] (append-nil bs) t.1, t.2 ∙ append_assoc inner (f ∷ []) t.0)
-prepend n f p inner (o ∷ os) bs fs grow t =
-    let P : List Form → Type 0 = λ xs. Tail (suc n) (o ++ Items xs ∷ []) os t.2 fs in
-    (f ∷ t.0, p ++ t.1, t.2, grow t.0 t.1 (41 ∷ t.2) (sym t.4) t.3, ap (λ (x : List ℕ). p ++ x) t.4 ∙ sym (append_assoc p t.1 (41 ∷ t.2)), subst P (append_assoc inner (f ∷ []) t.0) t.5)
+leaf_tail : {d k l : ℕ} {n : Nest} {bs : List ℕ} {tops : List Top} {f : Form} (w : List ℕ) → IsLeaf f w bs → Tail d k (line_after l w) (put f l n) bs tops → Tail d k l n (w ++ bs) tops
+leaf_tail w x (last s e) = last (leaf w x s) e
+leaf_tail {d} {k} {l} {n} {bs} {tops} w x (closes {d = p} {ms} {rest} q e s c t) =
+    let P : List ℕ → Type 0 = λ xs. Tail (suc p) k l n xs tops in
+    subst P (append_assoc w ms (41 ∷ rest)) (closes q (line_after-append l w ms ∙ e) (leaf w (leaf-front x ms (41 ∷ rest) refl) s) c t)
 
-prepend_blank : (n b : ℕ) (inner : List Form) (outer : List (List Form)) (bs : List ℕ) (fs : List Form) → kind_of b ≡ Blank → Tail n inner outer bs fs → Tail n inner outer (b ∷ bs) fs
-prepend_blank n b inner [] bs fs k t = (t.0, blank b k t.1, t.2)
-prepend_blank n b inner (o ∷ os) bs fs k t = (t.0, b ∷ t.1, t.2, blank b k t.3, ap (λ (x : List ℕ). b ∷ x) t.4, t.5)
+list_before : {d k l : ℕ} {n : Nest} {gs : List Form} {ks ms bs : List ℕ} {tops : List Top} → Spells k l gs ks ms → (q : ℕ) → line_after l ms ≡ q → Tail d (suc k) q (put (Items gs) l n) bs tops → Tail d (suc k) l n (40 ∷ ms ++ 41 ∷ bs) tops
+list_before {k} {l} {ms} s q e (last {fs} {ls} {bs} t h) =
+    let P : ℕ → Type 0 = λ x. Spells (suc k) x fs ls bs in
+    last (list s (subst P (sym e) t)) h
+list_before {d} {k} {l} {n} {ms} {tops} s q e (closes {d = p} {fs} {ls} {ms = xs} {rest} r g t c u) =
+    let P : List ℕ → Type 0 = λ ys. Tail (suc p) (suc k) l n (40 ∷ ys) tops in
+    let Q : ℕ → Type 0 = λ x. Spells (suc k) x fs ls xs in
+    let line : line_after l (40 ∷ ms ++ 41 ∷ xs) ≡ r = line_after-append l ms (41 ∷ xs) ∙ ap (λ (x : ℕ). line_after x xs) e ∙ g in
+    subst P (append_assoc ms (41 ∷ xs) (41 ∷ rest)) (closes r line (list s (subst Q (sym e) t)) c u)
 
-starts_word-front : (xs ys : List ℕ) → starts_word (xs ++ ys) ≡ false → starts_word xs ≡ false
-starts_word-front [] ys h = refl
-starts_word-front (x ∷ xs) ys h = h
+same_ok : {A E : Type 0} {a b : A} {r : Result A E} → r ≡ Ok a → r ≡ Ok b → a ≡ b
+same_ok p q = cc
 
-opening_byte : (b : ℕ) → kind_of b ≡ Opening → b ≡ 40
-opening_byte b h = grind (arith, nat_tests)
+list_tail : {d k l : ℕ} {n : Nest} {bs : List ℕ} {tops : List Top} → Tail (suc d) k l (pushed l n) bs tops → Tail d (suc k) l n (40 ∷ bs) tops
+list_tail {d} {k} {l} {n} {tops} (closes {m} {fs} {ls} {ms} {rest} q e s c t) =
+    let P : Nest → Type 0 = λ x. Tail d (suc k) q x rest tops in
+    list_before s q e (subst P (same_ok c (list_closed s l q n)) t)
 
-closing_byte : (b : ℕ) → kind_of b ≡ Closing → b ≡ 41
-closing_byte b h = grind (arith, common_steps)
+-- What the bytes that are left give.
+abbrev pub Meets : ℕ → ℕ → ℕ → Nest → List ℕ → Result (List Top) Refusal → Type 0
+Meets d k l n bs (Ok tops) = Tail d k l n bs tops
+Meets d k l n bs (Err r) = Faults n.file (lines_of n.lists) l bs r
 
-quote_byte : (b : ℕ) → kind_of b ≡ Quote → b ≡ 34
-quote_byte b h = grind arith
+meets_space : (d k l : ℕ) (n : Nest) (bs : List ℕ) (w : List ℕ) → IsSpace w → (r : Result (List Top) Refusal) → Meets d k (line_after l w) n bs r → Meets d k l n (w ++ bs) r
+meets_space d k l n bs w x (Ok tops) t = space_tail w x t
+meets_space d k l n bs w x (Err r) t = behind_space w x t
 
-letter_kind : (k : Kind) → is_letter k ≡ true → k ≡ Letter
-letter_kind Letter h = refl
-letter_kind Blank h = absurd cc
-letter_kind Opening h = absurd cc
-letter_kind Closing h = absurd cc
-letter_kind Quote h = absurd cc
-letter_kind Foreign h = absurd cc
+meets_leaf : (d k l : ℕ) (n : Nest) (bs : List ℕ) (f : Form) (w : List ℕ) → IsLeaf f w bs → (r : Result (List Top) Refusal) → Meets d k (line_after l w) (put f l n) bs r → Meets d k l n (w ++ bs) r
+meets_leaf d k l n bs f w x (Ok tops) t = leaf_tail w x t
+meets_leaf d k l n bs f w x (Err r) t =
+    let P : ℕ → Type 0 = λ file. Faults file (lines_of (put f l n).lists) (line_after l w) bs r in
+    let Q : List ℕ → Type 0 = λ os. Faults n.file os (line_after l w) bs r in
+    behind_leaf w x (subst Q (put_lines f l n) (subst P (put_file f l n) t))
 
-word_tail : (n b : ℕ) (inner : List Form) (outer : List (List Form)) (bs : List ℕ) (fs : List Form) → kind_of b ≡ Letter → WordTail (b ∷ []) n inner outer bs fs → Tail n inner outer (b ∷ bs) fs
-word_tail n b inner outer bs fs k t =
-    let P : List ℕ → Type 0 = λ x. Tail n inner outer (b ∷ x) fs in
-    subst P (sym t.split) (prepend n t.form (b ∷ t.more) inner outer t.rest fs
-    (λ ts front back e s. word (b ∷ t.more) (k, t.letters) t.spelled (starts_word-front front back (ap starts_word e ∙ t.ends_here)) s) t.tail)
+meets_list : (d k l : ℕ) (n : Nest) (bs : List ℕ) → nat_lt (length n.lists) 200 ≡ true → (r : Result (List Top) Refusal) → Meets (suc d) k l (pushed l n) bs r → Meets d (suc k) l n (40 ∷ bs) r
+meets_list d k l n bs h (Ok tops) t = list_tail t
+meets_list d k l n bs h (Err r) t = behind_opening (ap (λ m. nat_lt m 200) (lines_length n.lists) ∙ h) t
 
-string_tail : (n : ℕ) (inner : List Form) (outer : List (List Form)) (bs : List ℕ) (fs : List Form) → StringTail [] n inner outer bs fs → Tail n inner outer (34 ∷ bs) fs
-string_tail n inner outer bs fs t =
-    let P : List ℕ → Type 0 = λ x. Tail n inner outer (34 ∷ x) fs in
-    let e : (x : List ℕ) → (t.more ++ 34 ∷ []) ++ x ≡ t.more ++ 34 ∷ x = λ x. append_assoc t.more (34 ∷ []) x in
-    subst P (e t.rest ∙ sym t.split) (prepend n (Str t.more) (34 ∷ t.more ++ 34 ∷ []) inner outer t.rest fs
-    (λ ts front back h s. let Q : List ℕ → Type 0 = λ x. Spell n (Str t.more ∷ ts) (34 ∷ x) in subst Q (sym (e front)) (quoted t.more t.all s)) t.tail)
+shorter : (b m : ℕ) (w rest : List ℕ) → length (b ∷ w ++ rest) ≤ suc m → length rest ≤ m
+shorter b m w rest h = omega (arith, h, length-append w rest)
 
-list_tail : (n : ℕ) (inner : List Form) (outer : List (List Form)) (bs : List ℕ) (fs : List Form) → Tail n [] (inner ∷ outer) bs fs → Tail (suc n) inner outer (40 ∷ bs) fs
-list_tail n inner outer bs fs (gs, ms, rest, spelled, split, tail) =
-    let P : List ℕ → Type 0 = λ x. Tail (suc n) inner outer (40 ∷ x) fs in
-    let e : (x : List ℕ) → (ms ++ 41 ∷ []) ++ x ≡ ms ++ 41 ∷ x = λ x. append_assoc ms (41 ∷ []) x in
-    subst P (e rest ∙ sym split) (prepend (suc n) (Items gs) (40 ∷ ms ++ 41 ∷ []) inner outer rest fs
-    (λ ts front back h s. let Q : List ℕ → Type 0 = λ x. Spell (suc n) (Items gs ∷ ts) (40 ∷ x) in subst Q (sym (e front)) (list spelled s)) tail)
+-- The bytes behind others end a line where all do.
+rest_ends : (w rest : List ℕ) → line_ends true (w ++ rest) ≡ true → line_ends true rest ≡ true
+rest_ends w rest h = ends_anyway (line_ends true w) rest (sym (line_ends-append true w rest) ∙ h)
 
-two_steps : {A B C : Type 0} (f : A → Option B) (g : B → Option C) (o : Option A) → option_and_then g (option_and_then f o) ≡ option_and_then (λ x. option_and_then g (f x)) o
-two_steps f g None = refl
-two_steps f g (Some x) = refl
+-- What was shown of fewer bytes.
+abbrev Shown : ℕ → Type 0
+Shown m = (bs : List ℕ) → length bs ≤ m → line_ends true bs ≡ true → (d k l : ℕ) (n : Nest) → length n.lists ≡ d → d + k ≡ 200 → Meets d k l n bs (ends (between l n) bs)
 
--- a word that ended is a form
-settled_form : (v : List ℕ) (inner : List Form) (after : List Form → Option (List Form)) (fs : List Form) (c : ℕ) → option_and_then after (settled (c ∷ v) inner) ≡ Some fs →
-    (f : Form) × (atom (c ∷ v) ≡ Some f) × (after (inner ++ f ∷ []) ≡ Some fs)
-settled_form v inner after fs c e = from (atom (c ∷ v)) refl where
-  from : (o : Option Form) → atom (c ∷ v) ≡ o → (f : Form) × (atom (c ∷ v) ≡ Some f) × (after (inner ++ f ∷ []) ≡ Some fs)
-  from None h = absurd (let g = rw h at e in cc)
-  from (Some f) h = (f, h, rw h at e)
+at_end : (d k l : ℕ) (n : Nest) → length n.lists ≡ d → Meets d k l n [] (ends (between l n) [])
+at_end d k l n h = from d h n.lists refl where
+  from : (d : ℕ) → length n.lists ≡ d → (xs : List Open) → n.lists ≡ xs → Meets d k l n [] (whole n)
+  from zero h [] e =
+      let P : Result (List Top) Refusal → Type 0 = λ r. Meets 0 k l n [] r in
+      let g : whole n ≡ Ok n.tops = ap (whole_in n.file n.tops) e in
+      subst P (sym g) (last done g)
+  from (suc d) h [] e = absurd (let g = sym h ∙ ap (λ (ys : List Open). length ys) e in cc)
+  from d h (x ∷ xs) e =
+      let P : Result (List Top) Refusal → Type 0 = λ r. Meets d k l n [] r in
+      let g : whole n ≡ Err (refusal n.file 102 x.line (codes "list")) = ap (whole_in n.file n.tops) e in
+      let Q : List ℕ → Type 0 = λ os. Faults n.file os l [] (refusal n.file 102 x.line (codes "list")) in
+      subst P (sym g) (subst Q (sym (ap lines_of e)) (here open_list))
 
-end_between : (n : ℕ) (inner : List Form) (outer : List (List Form)) (fs : List Form) → ends (between inner outer) [] ≡ Some fs → Tail n inner outer [] fs
-end_between n inner [] fs e = ([], done, cc (append-nil inner))
-end_between n inner (o ∷ os) fs e = absurd cc
+at_list : (m : ℕ) → Shown m → (rest : List ℕ) → length rest ≤ m → line_ends true rest ≡ true → (d k l : ℕ) (n : Nest) → length n.lists ≡ d → d + k ≡ 200 → Meets d k l n (40 ∷ rest) (ends (between l n) (40 ∷ rest))
+at_list m shown rest short ended d k l n h g = from k g (nat_lt (length n.lists) 200) refl where
+  from : (k : ℕ) → d + k ≡ 200 → (r : Bool) → nat_lt (length n.lists) 200 ≡ r → Meets d k l n (40 ∷ rest) (ends (between l n) (40 ∷ rest))
+  from zero g true e = absurd (omega (arith, h, g, ltb-true (length n.lists) 200 e))
+  from (suc k) g true e =
+      let P : Result (List Top) Refusal → Type 0 = λ r. Meets d (suc k) l n (40 ∷ rest) r in
+      let t = meets_list d k l n rest e (ends (between l (pushed l n)) rest) (shown rest short ended (suc d) k l (pushed l n) (ap (λ (x : ℕ). suc x) h) (omega (arith, g))) in
+      let q : ends (between l n) (40 ∷ rest) ≡ ends (between l (pushed l n)) rest = rw e in
+      subst P (sym q) t
+  from k g false e =
+      let P : Result (List Top) Refusal → Type 0 = λ r. Meets d k l n (40 ∷ rest) r in
+      let t = too_deep (ap (λ m. nat_lt m 200) (lines_length n.lists) ∙ e) in
+      subst P (sym (offence_stops n t refl)) (here t)
 
-end_word : (c : ℕ) (v : List ℕ) (n : ℕ) (inner : List Form) (outer : List (List Form)) (fs : List Form) → ends (in_word (c ∷ v) inner outer) [] ≡ Some fs → WordTail (c ∷ v) n inner outer [] fs
-end_word c v n inner outer fs e =
-    let x = settled_form v inner (whole outer) fs c e in
-    record { form = x.0; more = []; rest = []; letters = tt; split = refl; ends_here = refl; spelled = rw append-nil x.1; tail = end_between n (inner ++ x.0 ∷ []) outer fs x.2 }
+meets_close : (d k l : ℕ) (n p : Nest) (rest : List ℕ) (o : ℕ) → closed l n ≡ Ok p → p.file ≡ n.file → lines_of n.lists ≡ o ∷ lines_of p.lists → (r : Result (List Top) Refusal) → Meets d (suc k) l p rest r → Meets (suc d) k l n (41 ∷ rest) r
+meets_close d k l n p rest o c file lines (Ok tops) t = closes {ms = []} l refl done c t
+meets_close d k l n p rest o c file lines (Err r) t =
+    let P : List ℕ → Type 0 = λ os. Faults n.file os l (41 ∷ rest) r in
+    let Q : ℕ → Type 0 = λ x. Faults x (lines_of p.lists) l rest r in
+    subst P (sym lines) (behind_closing (subst Q file t))
 
--- the end of the text
-at_end : IsSound []
-at_end = record {
-  at_between = λ n inner outer fs h e. end_between n inner outer fs e;
-  at_word = λ c v n inner outer fs h e. end_word c v n inner outer fs e;
-  at_string = λ v n inner outer fs h e. absurd (cc e);
-}
+at_close : (m : ℕ) → Shown m → (rest : List ℕ) → length rest ≤ m → line_ends true rest ≡ true → (d k l : ℕ) (n : Nest) → length n.lists ≡ d → d + k ≡ 200 → Meets d k l n (41 ∷ rest) (ends (between l n) (41 ∷ rest))
+at_close m shown rest short ended d k l n h g = from d h g n.lists refl where
+  from : (d : ℕ) → length n.lists ≡ d → d + k ≡ 200 → (xs : List Open) → n.lists ≡ xs → Meets d k l n (41 ∷ rest) (ends (between l n) (41 ∷ rest))
+  from d h g [] e =
+      let P : Result (List Top) Refusal → Type 0 = λ r. Meets d k l n (41 ∷ rest) r in
+      let Q : List ℕ → Type 0 = λ os. Faults n.file os l (41 ∷ rest) (refusal n.file 103 l (codes ")")) in
+      subst P (sym (offence_stops n no_list_is_open (ap lines_of e))) (subst Q (sym (ap lines_of e)) (here no_list_is_open))
+  from zero h g (x ∷ xs) e = absurd (let q = sym h ∙ ap (λ (ys : List Open). length ys) e in cc)
+  from (suc d) h g (x ∷ xs) e =
+      let P : Result (List Top) Refusal → Type 0 = λ r. Meets (suc d) k l n (41 ∷ rest) r in
+      let around : Nest = record { file = n.file; tops = n.tops; lists = xs } in
+      let p : Nest = put (Items x.forms) x.line around in
+      let c : closed l n ≡ Ok p = ap (λ ys. closed_in n.file n.tops ys l) e in
+      let q : length xs ≡ d = let z = sym h ∙ ap (λ (ys : List Open). length ys) e in cc in
+      let lines : lines_of n.lists ≡ x.line ∷ lines_of p.lists = ap lines_of e ∙ ap (λ (os : List ℕ). x.line ∷ os) (sym (put_lines (Items x.forms) x.line around)) in
+      let t = meets_close d k l n p rest x.line c (put_file (Items x.forms) x.line around) lines (ends (between l p) rest) (shown rest short ended d (suc k) l p (put_depth (Items x.forms) x.line around ∙ q) (omega (arith, g))) in
+      subst P (sym (ap (λ r. and_then (λ t. ends t rest) (and_then (λ m. Ok (between l m)) r)) c)) t
 
--- one more byte in front
-module _ (b : ℕ) (bs : List ℕ) (sound : IsSound bs) where
-  open_list : (n : ℕ) (inner : List Form) (outer : List (List Form)) (fs : List Form) → length outer + n ≡ 200 → kind_of b ≡ Opening → (r : Bool) → nat_lt (length outer) 200 ≡ r →
-      ends (between inner outer) (b ∷ bs) ≡ Some fs → Tail n inner outer (b ∷ bs) fs
-  open_list n inner outer fs h k false r e = absurd (let g = rw (k, r) at e in cc)
-  open_list zero inner outer fs h k true r e = absurd (omega (arith, ltb-true (length outer) 200 r))
-  open_list (suc n) inner outer fs h k true r e =
-      rw (opening_byte b k) (list_tail n inner outer bs fs (sound.at_between n [] (inner ∷ outer) fs (omega arith) (rw (k, r) at e)))
+next : (file m : ℕ) → Shown m → (bs : List ℕ) → Front file bs → length bs ≤ suc m → line_ends true bs ≡ true → (d k l : ℕ) (n : Nest) → n.file ≡ file → length n.lists ≡ d → d + k ≡ 200 → Meets d k l n bs (ends (between l n) bs)
+next file m shown _ nothing short ended d k l n f h g = at_end d k l n h
+next file m shown _ (at_space b w rest x) short ended d k l n f h g =
+    let P : Result (List Top) Refusal → Type 0 = λ r. Meets d k l n (b ∷ w ++ rest) r in
+    subst P (sym (space_taken x l n rest)) (meets_space d k l n rest (b ∷ w) x (ends (between (line_after l (b ∷ w)) n) rest)
+    (shown rest (shorter b m w rest short) (rest_ends (b ∷ w) rest ended) d k (line_after l (b ∷ w)) n h g))
+next file m shown _ (at_leaf {f = form} b w rest x) short ended d k l n f h g =
+    let P : Result (List Top) Refusal → Type 0 = λ r. Meets d k l n (b ∷ w ++ rest) r in
+    subst P (sym (leaf_taken x l n)) (meets_leaf d k l n rest form (b ∷ w) x (ends (between (line_after l (b ∷ w)) (put form l n)) rest)
+    (shown rest (shorter b m w rest short) (rest_ends (b ∷ w) rest ended) d k (line_after l (b ∷ w)) (put form l n) (put_depth form l n ∙ h) g))
+next file m shown _ (at_opening rest) short ended d k l n f h g = at_list m shown rest (omega (arith, short)) (rest_ends (40 ∷ []) rest ended) d k l n h g
+next file m shown _ (at_closing rest) short ended d k l n f h g = at_close m shown rest (omega (arith, short)) (rest_ends (41 ∷ []) rest ended) d k l n h g
+next file m shown bs (at_fault x) short ended d k l n f h g =
+    let P : Result (List Top) Refusal → Type 0 = λ r. Meets d k l n bs r in
+    let y = x (lines_of n.lists) l in
+    let Q : ℕ → Type 0 = λ z. Offends z (lines_of n.lists) l bs y.0 in
+    let o = subst Q (sym f) y.1 in
+    subst P (sym (offence_stops n o refl)) (here o)
 
-  close_list : (n : ℕ) (inner : List Form) (outer : List (List Form)) (fs : List Form) → length outer + n ≡ 200 → kind_of b ≡ Closing →
-      ends (between inner outer) (b ∷ bs) ≡ Some fs → Tail n inner outer (b ∷ bs) fs
-  close_list n inner [] fs h k e = absurd (let g = rw k at e in cc)
-  close_list n inner (o ∷ os) fs h k e =
-      let P : List Form → Type 0 = λ xs. Tail (suc n) (o ++ Items xs ∷ []) os bs fs in
-      ([], [], bs, done, rw (closing_byte b k), subst P (sym (append-nil inner)) (sound.at_between (suc n) (o ++ Items inner ∷ []) os fs (omega arith) (rw k at e)))
+shown_all : (m : ℕ) → Shown m
+shown_all zero [] short ended d k l n h g = at_end d k l n h
+shown_all zero (b ∷ bs) short ended d k l n h g = absurd (omega (arith, short))
+shown_all (suc m) bs short ended d k l n h g = next n.file m (shown_all m) bs (front n.file bs ended) short ended d k l n refl h g
 
-  more_between : (k : Kind) → kind_of b ≡ k → (n : ℕ) (inner : List Form) (outer : List (List Form)) (fs : List Form) → length outer + n ≡ 200 →
-      ends (between inner outer) (b ∷ bs) ≡ Some fs → Tail n inner outer (b ∷ bs) fs
-  more_between Blank k n inner outer fs h e = prepend_blank n b inner outer bs fs k (sound.at_between n inner outer fs h (rw k at e))
-  more_between Letter k n inner outer fs h e = word_tail n b inner outer bs fs k (sound.at_word b [] n inner outer fs h (rw k at e))
-  more_between Opening k n inner outer fs h e = open_list n inner outer fs h k (nat_lt (length outer) 200) refl e
-  more_between Closing k n inner outer fs h e = close_list n inner outer fs h k e
-  more_between Quote k n inner outer fs h e = rw (quote_byte b k) (string_tail n inner outer bs fs (sound.at_string [] n inner outer fs h (rw k at e)))
-  more_between Foreign k n inner outer fs h e = absurd (let g = rw k at e in cc)
-
-  grown : (c : ℕ) (v : List ℕ) (n : ℕ) (inner : List Form) (outer : List (List Form)) (fs : List Form) → kind_of b ≡ Letter → WordTail (c ∷ v ++ b ∷ []) n inner outer bs fs → WordTail (c ∷ v) n inner outer (b ∷ bs) fs
-  grown c v n inner outer fs k t = record {
-    form = t.form;
-    more = b ∷ t.more;
-    rest = t.rest;
-    letters = (k, t.letters);
-    split = ap (λ (x : List ℕ). b ∷ x) t.split;
-    ends_here = t.ends_here;
-    spelled = ap atom (sym (append_assoc (c ∷ v) (b ∷ []) t.more)) ∙ t.spelled;
-    tail = t.tail;
-  }
-
-  ended : (c : ℕ) (v : List ℕ) (n : ℕ) (inner : List Form) (outer : List (List Form)) (fs : List Form) → length outer + n ≡ 200 → is_letter (kind_of b) ≡ false →
-      ends (in_word (c ∷ v) inner outer) (b ∷ bs) ≡ Some fs → WordTail (c ∷ v) n inner outer (b ∷ bs) fs
-  ended c v n inner outer fs h k e =
-      let after : List Form → Option (List Form) = λ inner. option_and_then (λ t. ends t bs) (apart (kind_of b) inner outer) in
-      let x = settled_form v inner after fs c (sym (two_steps (λ inner. apart (kind_of b) inner outer) (λ t. ends t bs) (settled (c ∷ v) inner)) ∙ rw k at e) in
-      record {
-        form = x.0;
-        more = [];
-        rest = b ∷ bs;
-        letters = tt;
-        split = refl;
-        ends_here = k;
-        spelled = rw append-nil x.1;
-        tail = more_between (kind_of b) refl n (inner ++ x.0 ∷ []) outer fs h (rw k x.2);
-      }
-
-  more_word : (r : Bool) → is_letter (kind_of b) ≡ r → (c : ℕ) (v : List ℕ) (n : ℕ) (inner : List Form) (outer : List (List Form)) (fs : List Form) → length outer + n ≡ 200 →
-      ends (in_word (c ∷ v) inner outer) (b ∷ bs) ≡ Some fs → WordTail (c ∷ v) n inner outer (b ∷ bs) fs
-  more_word true k c v n inner outer fs h e = grown c v n inner outer fs (letter_kind (kind_of b) k) (sound.at_word c (v ++ b ∷ []) n inner outer fs h (rw k at e))
-  more_word false k c v n inner outer fs h e = ended c v n inner outer fs h k e
-
-  more_string : (r q : Bool) → is_string_byte b ≡ r → (b == 34) ≡ q → (v : List ℕ) (n : ℕ) (inner : List Form) (outer : List (List Form)) (fs : List Form) → length outer + n ≡ 200 →
-      ends (in_string v inner outer) (b ∷ bs) ≡ Some fs → StringTail v n inner outer (b ∷ bs) fs
-  more_string true q k j v n inner outer fs h e =
-      let t = sound.at_string (v ++ b ∷ []) n inner outer fs h (rw k at e) in
-      let P : List ℕ → Type 0 = λ x. Tail n (inner ++ Str x ∷ []) outer t.rest fs in
-      record { more = b ∷ t.more; rest = t.rest; all = (k, t.all); split = ap (λ (x : List ℕ). b ∷ x) t.split; tail = subst P (append_assoc v (b ∷ []) t.more) t.tail }
-  more_string false true k j v n inner outer fs h e =
-      let P : List ℕ → Type 0 = λ x. Tail n (inner ++ Str x ∷ []) outer bs fs in
-      record { more = []; rest = bs; all = tt; split = rw (eqb-true b 34 j); tail = subst P (sym (append-nil v)) (sound.at_between n (inner ++ Str v ∷ []) outer fs h (rw (k, j) at e)) }
-  more_string false false k j v n inner outer fs h e = absurd (let g = rw (k, j) at e in cc)
-
-  one_more : IsSound (b ∷ bs)
-  one_more = record {
-    at_between = more_between (kind_of b) refl;
-    at_word = more_word (is_letter (kind_of b)) refl;
-    at_string = more_string (is_string_byte b) (b == 34) refl refl;
-  }
-
-sound : (bs : List ℕ) → IsSound bs
-sound [] = at_end
-sound (b ∷ bs) = one_more b bs (sound bs)
-
-pub read_is_spelled : (bytes : List ℕ) (fs : List Form) → read_all bytes ≡ Some fs → Spell 200 fs bytes
-read_is_spelled bytes fs e =
-    let t = (sound bytes).at_between 200 [] [] fs refl e in
-    let P : List Form → Type 0 = λ x. Spell 200 x bytes in subst P (sym t.2) t.1
+-- What the bytes give, whose last line is ended.
+pub sound : (bs : List ℕ) → line_ends true bs ≡ true → (l : ℕ) (n : Nest) → n.lists ≡ [] → Meets 0 200 l n bs (ends (between l n) bs)
+sound bs ended l n e = shown_all (length bs) bs (omega arith) ended 0 200 l n (ap (λ (xs : List Open). length xs) e) refl

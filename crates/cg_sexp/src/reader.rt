@@ -1,240 +1,218 @@
-ghost use Rattle.std.specs.Prelude.{◌≡◌, ◌++◌, ◌∷◌, [], None, OnOk, OnErr};
-ghost use Rattle.cg_base.specs.Grammar.{is_string_byte, next_line};
-ghost use Rattle.cg_sexp.specs.Machine.{step, finish, read_all, settled, closed, apart, string_step, word_step};
-ghost use Rattle.std.specs.Prelude.{IfOk};
-ghost use Rattle.cg_sexp.specs.Machine.{between};
-ghost use Rattle.cg_sexp.specs.Starts.{begins, starts_form, is_empty, starts_from};
-ghost use Rattle.cg_sexp.specs.Held.{state_of, Gives, Answers, AnswersBy};
-ghost use Rattle.cg_sexp.specs.declared.reader.Fault.TheVariants.{Memory};
+ghost use Rattle.std.specs.Prelude.{◌≡◌, [], OnOk};
+ghost use Rattle.cg_base.specs.Grammar.{kind_of};
+ghost use Rattle.cg_base.specs.Faults.{refusal, hex_byte};
+ghost use Rattle.cg_base.specs.Reading.{ended};
+ghost use Rattle.cg_sexp.specs.Refused.{IsRefusal};
+ghost use Rattle.cg_sexp.specs.Machine.{apart, settled, outside_step, string_step, escape_step, comment_step, step, finish, whole, read_all};
+ghost use Rattle.cg_sexp.specs.Held.{nest_of, state_of, Gives, Answers};
 
-use crate::kind::kind_at;
-use crate::token::atom_of;
-use cg_base::{Form, Kind, List, NoMemory, Text};
-use std::alloc::{AllocError, AllocFailed, Global};
-use std::mem;
+use crate::kind::{is_string_byte, kind_at, next_line};
+use crate::refused::{refused, refused_byte};
+use crate::stack::Stack;
+use crate::token::{form_of, refused_as};
+use cg_base::{Form, Kind, List, Stop, Text, Top};
+use std::alloc::Global;
 
-/// Why reading stops.
+/// Where the reader stands in a text. The strings hold the line of their `"`.
 #[derive(Clone, Copy, Debug, PartialEq, Eq)]
-pub enum Fault {
-    Memory,
-    Spelling,
-}
-
-impl From<NoMemory> for Fault {
-    ghost from_gives = { λ _ e. e ≡ Memory };
-
-    fn from(_: NoMemory) -> Self {
-        Fault::Memory
-    }
-}
-
-impl<T: Drop> From<AllocFailed<T>> for Fault {
-    ghost from_gives = { λ _ e. e ≡ Memory };
-
-    fn from(_: AllocFailed<T>) -> Self {
-        Fault::Memory
-    }
-}
-
-/// In a word, or in a string. A word of no bytes is between.
-#[derive(Drop)]
 pub enum Mode {
-    Word(Text),
-    Quoted(Text),
+    /// Between forms, or in a token.
+    Outside,
+    /// In a string.
+    Quoted(u32),
+    /// In a string, behind `\`.
+    Escaping(u32),
+    /// In a comment.
+    Comment,
 }
 
 /// Reads a text byte by byte.
 #[derive(Drop)]
 pub struct Reader {
-    alloc: Global,
-    mode: Mode,
-    /// The forms of the innermost list that is open.
-    inner: List<Form>,
-    /// Those of the lists around it, the outermost first.
-    outer: Vec<List<Form>>,
+    pub mode: Mode,
+    /// The bytes so far of a token or string.
+    pub held: Text,
+    pub line: u32,
+    pub stack: Stack,
 }
-
-const MAX_DEPTH: usize = 200;
 
 impl Reader {
-    /// Ends the word, if there is one.
-    fn settle(&mut self, word: Text) -> Result<(), Fault>
-        ensures found { Gives result self.new.inner (settled word self.old.inner) }
-        ensures rest { OnOk result (self.new ≡ record self.old { inner = self.new.inner }) }
+    /// Ends the token, if there is one.
+    fn settle(&mut self) -> Result<(), Stop>
+        ensures nest { Gives result (nest_of self.new.stack) (settled self.old.held self.old.line (nest_of self.old.stack)) }
+        ensures rest { OnOk result (self.new ≡ record self.old { held = []; stack = self.new.stack }) }
     {
-        if word.len() > 0 {
-            self.inner.push(atom_of(word)?)?;
+        if self.held.len() == 0 {
+            return Ok(());
         }
-        Ok(())
-    }
-
-    fn close(&mut self) -> Result<(), Fault>
-        requires { self.old.mode ≡ Mode.Word [] }
-        ensures { Gives result (state_of self.new) (closed self.old.inner (state_of self.old).outer) }
-    {
-        match self.outer.pop() {
-            Some(around) => {
-                let inner = mem::replace(&mut self.inner, around);
-                self.inner.push(Form::Items(inner))?;
+        match form_of(Text::of(self.stack.alloc, self.held.as_slice())?) {
+            Ok(form) => {
+                self.stack.put(form, self.line)?;
+                self.held.clear();
                 Ok(())
             }
-            None => Err(Fault::Spelling),
+            Err(fault) => Err(refused(
+                self.stack.alloc,
+                self.stack.file,
+                refused_as(fault),
+                self.line,
+                self.held.as_slice(),
+            )),
         }
     }
 
-    fn open(&mut self) -> Result<(), Fault>
-        requires { self.old.mode ≡ Mode.Word [] }
-        ensures { Gives result (state_of self.new) (apart Kind.Opening self.old.inner (state_of self.old).outer) }
-    {
-        if self.outer.len() >= MAX_DEPTH {
-            return Err(Fault::Spelling);
-        }
-        let inner = mem::replace(&mut self.inner, List::new(self.alloc));
-        self.outer.push(inner)?;
-        Ok(())
-    }
-
-    /// Takes a byte that stands in no word.
-    fn part(&mut self, kind: Kind) -> Result<(), Fault>
-        requires { self.old.mode ≡ Mode.Word [] }
-        ensures { Gives result (state_of self.new) (apart kind self.old.inner (state_of self.old).outer) }
-    {
-        match kind {
-            Kind::Blank => Ok(()),
-            Kind::Opening => self.open(),
-            Kind::Closing => self.close(),
-            Kind::Quote => {
-                self.mode = Mode::Quoted(Text::new(self.alloc));
-                Ok(())
-            }
-            Kind::Letter | Kind::Foreign => Err(Fault::Spelling),
-        }
-    }
-
-    fn word(&mut self, mut word: Text, byte: u8) -> Result<(), Fault>
-        requires { self.old.mode ≡ Mode.Word [] }
-        ensures { Gives result (state_of self.new) (word_step word byte self.old.inner (state_of self.old).outer) }
+    /// Takes a byte that stands in no token.
+    fn apart(&mut self, byte: u8) -> Result<(), Stop>
+        requires mode { self.old.mode ≡ Mode.Outside }
+        requires held { self.old.held ≡ [] }
+        ensures { Gives result (state_of self.new) (apart (kind_of byte) byte self.old.line (nest_of self.old.stack)) }
     {
         match kind_at(byte) {
-            Kind::Letter => {
-                word.push(byte)?;
-                self.mode = Mode::Word(word);
+            Kind::Blank => {
+                self.line = next_line(self.line, byte);
                 Ok(())
             }
-            kind => {
-                self.settle(word)?;
-                self.part(kind)
+            Kind::Opening => self.stack.open(self.line),
+            Kind::Closing => self.stack.close(self.line),
+            Kind::Quote => {
+                self.mode = Mode::Quoted(self.line);
+                Ok(())
             }
+            Kind::Semicolon => {
+                self.mode = Mode::Comment;
+                Ok(())
+            }
+            Kind::Letter | Kind::Foreign => Err(self.refused_here(byte)),
         }
     }
 
-    fn string(&mut self, mut text: Text, byte: u8) -> Result<(), Fault>
-        requires { self.old.mode ≡ Mode.Word [] }
-        ensures { Gives result (state_of self.new) (string_step text byte self.old.inner (state_of self.old).outer) }
+    /// The refusal of a byte on this line.
+    fn refused_here(&self, byte: u8) -> Stop
+        ensures { IsRefusal result (refusal self.now.stack.file 101 self.now.line (hex_byte byte)) }
     {
-        if is_text(byte) {
-            text.push(byte)?;
-            self.mode = Mode::Quoted(text);
-            Ok(())
-        } else if byte == b'"' {
-            self.inner.push(Form::Str(text))?;
-            Ok(())
-        } else {
-            Err(Fault::Spelling)
-        }
+        refused_byte(self.stack.alloc, self.stack.file, self.line, byte)
     }
 
-    /// Whether a form that stands in no other begins with this byte.
-    #[tactic(auto, using(crate::specs::Lines::outer_empty))]
-    fn begins(&self, byte: u8) -> bool
-        ensures { result ≡ begins (state_of self.now) byte }
+    /// Takes a byte outside strings and comments.
+    fn outside(&mut self, byte: u8) -> Result<(), Stop>
+        requires { self.old.mode ≡ Mode.Outside }
+        ensures { Gives result (state_of self.new) (outside_step self.old.held byte self.old.line (nest_of self.old.stack)) }
     {
-        match &self.mode {
-            Mode::Word(word) => starts_form(kind_at(byte), word) && self.outer.is_empty(),
-            Mode::Quoted(_) => false,
+        if kind_at(byte) == Kind::Letter {
+            self.held.push(byte)?;
+            return Ok(());
+        }
+        self.settle()?;
+        self.apart(byte)
+    }
+
+    /// Takes a byte of a string that began on the line `start`.
+    fn string(&mut self, start: u32, byte: u8) -> Result<(), Stop>
+        requires { self.old.mode ≡ Mode.Quoted start }
+        ensures { Gives result (state_of self.new) (string_step start self.old.held byte self.old.line (nest_of self.old.stack)) }
+    {
+        match byte {
+            b'"' => {
+                let string = Text::of(self.stack.alloc, self.held.as_slice())?;
+                self.stack.put(Form::Str(string), start)?;
+                self.held.clear();
+                self.mode = Mode::Outside;
+                Ok(())
+            }
+            b'\\' => {
+                self.mode = Mode::Escaping(start);
+                Ok(())
+            }
+            _ if is_string_byte(byte) => {
+                self.held.push(byte)?;
+                self.line = next_line(self.line, byte);
+                Ok(())
+            }
+            _ => Err(self.refused_here(byte)),
         }
     }
 
-    fn take(&mut self, byte: u8) -> Result<(), Fault>
+    /// Takes a byte that stands behind `\` in a string that began on the line `start`.
+    fn escape(&mut self, start: u32, byte: u8) -> Result<(), Stop>
+        ensures { Gives result (state_of self.new) (escape_step start self.old.held byte self.old.line (nest_of self.old.stack)) }
+    {
+        match byte {
+            b'"' | b'\\' => self.held.push(byte)?,
+            b'n' => self.held.push(b'\n')?,
+            b't' => self.held.push(b'\t')?,
+            b'\n' => {}
+            _ => return Err(self.refused_here(b'\\')),
+        }
+        self.mode = Mode::Quoted(start);
+        self.line = next_line(self.line, byte);
+        Ok(())
+    }
+
+    /// Takes a byte of a comment.
+    fn comment(&mut self, byte: u8)
+        requires { self.old.mode ≡ Mode.Comment }
+        ensures { state_of self.new ≡ comment_step self.old.held byte self.old.line (nest_of self.old.stack) }
+    {
+        if byte == b'\n' {
+            self.mode = Mode::Outside;
+            self.line = next_line(self.line, byte);
+        }
+    }
+
+    fn take(&mut self, byte: u8) -> Result<(), Stop>
         ensures { Gives result (state_of self.new) (step (state_of self.old) byte) }
     {
-        match mem::replace(&mut self.mode, Mode::Word(Text::new(self.alloc))) {
-            Mode::Word(word) => self.word(word, byte),
-            Mode::Quoted(text) => self.string(text, byte),
+        match self.mode {
+            Mode::Outside => self.outside(byte),
+            Mode::Quoted(start) => self.string(start, byte),
+            Mode::Escaping(start) => self.escape(start, byte),
+            Mode::Comment => {
+                self.comment(byte);
+                Ok(())
+            }
         }
     }
 
-    fn finish(mut self) -> Result<List<Form>, Fault>
+    fn finish(mut self) -> Result<List<Top>, Stop>
         ensures { Answers result (finish (state_of self)) }
     {
-        match mem::replace(&mut self.mode, Mode::Word(Text::new(self.alloc))) {
-            Mode::Word(word) => {
-                self.settle(word)?;
-                if self.outer.len() > 0 {
-                    return Err(Fault::Spelling);
-                }
-                let Reader { inner, .. } = self;
-                Ok(inner)
+        match self.mode {
+            Mode::Outside => {
+                self.settle()?;
+                self.whole()
             }
-            Mode::Quoted(_) => Err(Fault::Spelling),
+            Mode::Comment => self.whole(),
+            Mode::Quoted(start) | Mode::Escaping(start) => Err(refused(
+                self.stack.alloc,
+                self.stack.file,
+                102,
+                start,
+                b"string".as_slice(),
+            )),
         }
     }
-}
 
-fn is_text(byte: u8) -> bool
-    ensures { result ≡ is_string_byte byte }
-{
-    matches!(byte, 9 | 10 | 13 | 32..=126) && byte != b'"'
-}
-
-fn starts_form(kind: Kind, word: &Text) -> bool
-    ensures { result ≡ starts_form kind word.now }
-{
-    match kind {
-        Kind::Letter => is_empty(word.as_slice()),
-        Kind::Opening | Kind::Quote => true,
-        _ => false,
+    fn whole(self) -> Result<List<Top>, Stop>
+        ensures { Answers result (whole (nest_of self.stack)) }
+    {
+        let Reader { stack, .. } = self;
+        stack.whole()
     }
 }
 
-fn is_empty(bytes: &[u8]) -> bool
-    ensures { result ≡ is_empty bytes.now }
-{
-    match bytes {
-        [] => true,
-        _ => false,
-    }
-}
-
-/// The forms that the bytes spell, and the lines on which they begin.
-pub fn placed_forms(alloc: Global, bytes: &[u8]) -> Result<(List<Form>, List<u32>), Fault>
-    ensures forms { AnswersBy (λ x. x.0) result (read_all bytes.now) }
-    ensures lines { IfOk result (λ x. x.1 ≡ starts_from (between [] []) 1 bytes.now) }
+/// The forms that the bytes spell and a line's end behind them, or the first fault.
+pub fn read_all(alloc: Global, bytes: &[u8], file: u16) -> Result<List<Top>, Stop>
+    ensures { Answers result (read_all file (ended bytes.now)) }
 {
     let mut reader = Reader {
-        alloc,
-        mode: Mode::Word(Text::new(alloc)),
-        inner: List::new(alloc),
-        outer: Vec::new(alloc),
+        mode: Mode::Outside,
+        held: Text::new(alloc),
+        line: 1,
+        stack: Stack::new(alloc, file),
     };
-    let mut line = 1u32;
-    let mut starts = List::new(alloc);
     for byte in bytes {
-        if reader.begins(*byte) {
-            starts.push(line)?;
-        }
         reader.take(*byte)?;
-        line = next_line(line, *byte);
     }
-    Ok((reader.finish()?, starts))
-}
-
-fn next_line(line: u32, byte: u8) -> u32
-    ensures { result ≡ next_line line byte }
-{
-    if byte == b'\n' {
-        line.saturating_add(1)
-    } else {
-        line
-    }
+    reader.take(b'\n')?;
+    reader.finish()
 }

@@ -1,35 +1,49 @@
-ghost use Rattle.std.specs.Prelude.{◌≡◌, ◌<◌, ◌^◌, ◌++◌, ◌∷◌, [], IsTrue, true};
+ghost use Rattle.std.specs.Prelude.{◌≡◌, ◌<◌, ◌≤◌, ◌^◌, ◌++◌, ◌∷◌, [], nat_lt};
 ghost use Rattle.std.specs.Option.{SomeIff};
 ghost use Rattle.std.specs.List.{list_all};
-ghost use Rattle.cg_base.specs.Grammar.{atom, positive, negative, value_from, are_digits, is_digit};
-ghost use Rattle.cg_sexp.specs.Held.{Answers};
+ghost use Rattle.std.specs.Char.{digit_value};
+ghost use Rattle.std.specs.Str.Parse.{digits_value};
+ghost use Rattle.cg_base.specs.Grammar.{token, marked, based, positive, negative, are_digits};
+ghost use Rattle.cg_base.specs.Faults.{refused_as};
 
-use crate::reader::Fault;
-use cg_base::{Form, Text};
+use cg_base::{Form, NoToken, Text};
 
-fn all_are_digits(bytes: &[u8]) -> bool
-    ensures { result ≡ list_all is_digit bytes.now }
+/// The value of a digit, in bases up to 36, and 36 for a byte that is none.
+fn digit_value(byte: u8) -> u8
+    ensures { result ≡ digit_value byte }
 {
-    bytes.iter().all(|b| 48 <= *b && *b <= 57)
+    match byte {
+        b'0'..=b'9' => byte - b'0',
+        b'A'..=b'Z' => byte - b'A' + 10,
+        b'a'..=b'z' => byte - b'a' + 10,
+        _ => 36,
+    }
 }
 
-fn are_all_digits(bytes: &[u8]) -> bool
-    ensures { result ≡ are_digits bytes.now }
+fn all_are_digits(base: u8, bytes: &[u8]) -> bool
+    ensures { result ≡ list_all (λ b. nat_lt (digit_value b) base) bytes.now }
 {
-    bytes.len() > 0 && all_are_digits(bytes)
+    bytes.iter().all(|b| digit_value(*b) < base)
+}
+
+fn are_digits(base: u8, bytes: &[u8]) -> bool
+    ensures { result ≡ are_digits base bytes.now }
+{
+    bytes.len() > 0 && all_are_digits(base, bytes)
 }
 
 /// The number whose digits these are, where it has 64 bits.
-fn magnitude(digits: &[u8]) -> Option<u64>
-    ensures { SomeIff result (value_from 0 digits.now < 2 ^ 64) (value_from 0 digits.now) }
+fn magnitude(base: u8, digits: &[u8]) -> Option<u64>
+    requires { 1 ≤ base }
+    ensures { SomeIff result (digits_value base digits.now < 2 ^ 64) (digits_value base digits.now) }
 {
     let mut value = 0u64;
     for digit in digits {
-        let digit = u64::from(digit.saturating_sub(b'0'));
-        let Some(tens) = value.checked_mul(10) else {
+        let digit = u64::from(digit_value(*digit));
+        let Some(shifted) = value.checked_mul(u64::from(base)) else {
             return None;
         };
-        let Some(next) = tens.checked_add(digit) else {
+        let Some(next) = shifted.checked_add(digit) else {
             return None;
         };
         value = next;
@@ -37,66 +51,115 @@ fn magnitude(digits: &[u8]) -> Option<u64>
     Some(value)
 }
 
-fn positive_of(value: u64) -> Option<Form>
+fn positive_form(value: u64) -> Result<Form, NoToken>
     ensures { result ≡ positive value }
 {
     if value < 1 << 63 {
-        Some(Form::Number(value as i64))
+        Ok(Form::Number(value as i64))
     } else {
-        None
+        Err(NoToken::OutOfRange)
     }
 }
 
-fn negative_of(value: u64) -> Option<Form>
+fn negative_form(value: u64) -> Result<Form, NoToken>
     ensures { result ≡ negative value }
 {
     if value == 0 {
-        Some(Form::Number(0))
+        Ok(Form::Number(0))
     } else if value <= 1 << 63 {
-        Some(Form::Number(-((value - 1) as i64) - 1))
+        Ok(Form::Number(-((value - 1) as i64) - 1))
     } else {
-        None
+        Err(NoToken::OutOfRange)
     }
 }
 
-fn spelled(answer: Option<Form>) -> Result<Form, Fault>
-    ensures { Answers result answer }
+fn positive(base: u8, digits: &[u8]) -> Result<Form, NoToken>
+    requires { 1 ≤ base }
+    ensures { result ≡ positive (digits_value base digits.now) }
 {
-    answer.ok_or(Fault::Spelling)
+    match magnitude(base, digits) {
+        Some(value) => positive_form(value),
+        None => Err(NoToken::OutOfRange),
+    }
 }
 
-fn positive_number(digits: &[u8]) -> Option<Form>
-    ensures { result ≡ positive (value_from 0 digits.now) }
+fn negative(base: u8, digits: &[u8]) -> Result<Form, NoToken>
+    requires { 1 ≤ base }
+    ensures { result ≡ negative (digits_value base digits.now) }
 {
-    positive_of(magnitude(digits)?)
+    match magnitude(base, digits) {
+        Some(value) => negative_form(value),
+        None => Err(NoToken::OutOfRange),
+    }
 }
 
-fn negative_number(digits: &[u8]) -> Option<Form>
-    ensures { result ≡ negative (value_from 0 digits.now) }
+/// What stands behind `#x`, `#o` or `#b`.
+fn based(base: u8, bytes: &[u8]) -> Result<Form, NoToken>
+    requires { 1 ≤ base }
+    ensures { result ≡ based base bytes.now }
 {
-    negative_of(magnitude(digits)?)
+    let Some((first, rest)) = bytes.split_first() else {
+        return Err(NoToken::Unknown);
+    };
+    if *first == b'-' && are_digits(base, rest) {
+        return negative(base, rest);
+    }
+    if are_digits(base, bytes) {
+        return positive(base, bytes);
+    }
+    Err(NoToken::Unknown)
 }
 
-/// What a word stands for.
-#[tactic(auto, unfolding(cg_base::specs::Grammar::atom))]
-pub fn atom_of(word: Text) -> Result<Form, Fault>
-    ensures { Answers result (atom word) }
+/// What stands behind `#`.
+fn marked(bytes: &[u8]) -> Result<Form, NoToken>
+    ensures { result ≡ marked bytes.now }
+{
+    let Some((first, rest)) = bytes.split_first() else {
+        return Err(NoToken::Unknown);
+    };
+    match *first {
+        b'x' => based(16, rest),
+        b'o' => based(8, rest),
+        b'b' => based(2, rest),
+        b't' if rest.len() == 0 => Ok(Form::Flag(true)),
+        b'f' if rest.len() == 0 => Ok(Form::Flag(false)),
+        _ => Err(NoToken::Unknown),
+    }
+}
+
+/// What a token stands for.
+#[tactic(auto, unfolding(cg_base::specs::Grammar::token))]
+pub fn form_of(word: Text) -> Result<Form, NoToken>
+    ensures { result ≡ token word }
 {
     let bytes = word.as_slice();
     let Some((first, rest)) = bytes.split_first() else {
-        return Err(Fault::Spelling);
+        return Err(NoToken::Unknown);
     };
     if *first == b'\'' || *first == b'`' || *first == b',' {
-        return Err(Fault::Spelling);
+        return Err(NoToken::Unknown);
     }
-    if *first == b'+' && are_all_digits(rest) {
-        return spelled(positive_number(rest));
+    if *first == b'#' {
+        return marked(rest);
     }
-    if *first == b'-' && are_all_digits(rest) {
-        return spelled(negative_number(rest));
+    if *first == b'+' && are_digits(10, rest) {
+        return positive(10, rest);
     }
-    if are_all_digits(bytes) {
-        return spelled(positive_number(bytes));
+    if *first == b'-' && are_digits(10, rest) {
+        return negative(10, rest);
+    }
+    if are_digits(10, bytes) {
+        return positive(10, bytes);
     }
     Ok(Form::Symbol(word))
+}
+
+/// The number of the refusal of a token.
+pub fn refused_as(fault: NoToken) -> u16
+    ensures { result ≡ refused_as fault }
+{
+    match fault {
+        NoToken::Unknown => 101,
+        NoToken::OutOfRange => 104,
+    }
 }

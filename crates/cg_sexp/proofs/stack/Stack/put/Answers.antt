@@ -1,0 +1,6 @@
+use Rattle.std.proofs.Common.{rules, arith, ◌≡◌, sym, ◌∙◌, ap, Ok, Err}
+use Rattle.cg_sexp.specs.Last.{put_last}
+use Rattle.cg_sexp.proofs.stack.Stack.put.Goals as goal
+
+pub returns-in-Some : goal.returns-in-Some
+returns-in-Some c = search (rules, put_last)
