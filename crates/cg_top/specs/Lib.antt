@@ -9,3 +9,4 @@ pub mod Fetching
 pub mod Replies
 pub mod Answer
 pub mod Top
+pub mod Rows

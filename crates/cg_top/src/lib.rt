@@ -3,6 +3,7 @@
 
 mod asking;
 mod fetching;
+mod laws;
 mod loading;
 mod machine;
 mod matching;
@@ -13,4 +14,8 @@ mod shape;
 mod thin;
 mod top;
 
+pub use laws::one_answer;
 pub use top::cgen;
+
+#[cfg(test)]
+mod tests;

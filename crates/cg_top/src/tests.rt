@@ -1,0 +1,207 @@
+ghost use Rattle.std.specs.Prelude.{◌≡◌, ◌∷◌, [], None, codes};
+ghost use Rattle.cg_top.specs.Asking.{asked};
+ghost use Rattle.cg_top.specs.Matching.{decoded};
+ghost use Rattle.cg_top.specs.Loading.{no_machine, not_thin};
+ghost use Rattle.cg_top.specs.Replies.{refusal_line};
+ghost use Rattle.cg_top.specs.Rows.{tiny, row_words};
+
+use crate::cgen;
+use cg_base::{List, NoMemory, Text};
+use cg_io::{Entry, MemFiles, MemSink};
+use std::alloc::Global;
+use std::test::Fail;
+
+/// The eight lines of a description that stand before its instructions.
+fn front() -> &'static [u8] {
+    b"(define-arch (name tiny) (machs tiny) (isas tiny))
+(define-isa (name tiny) (base-insn-bitsize 16))
+(define-cpu (name tinyc) (endian big) (word-bitsize 32))
+(define-mach (name tiny) (cpu tinyc))
+(define-ifield (name f-op) (start 0) (length 4))
+(define-ifield (name f-rd) (start 4) (length 4))
+(define-ifield (name f-rs) (start 8) (length 4))
+(define-ifield (name f-x) (start 12) (length 4))
+"
+}
+
+/// An instruction. With the lines in front it is the description T0.
+fn add() -> &'static [u8] {
+    b"(define-insn (name add) (syntax \"add ${f-rd},${f-rs}\") (format (+ (f-op 1) f-rd f-rs (f-x 0))) (semantics (nop)))
+"
+}
+
+/// An instruction that matches what `add` matches, with its slots in another order.
+fn twin() -> &'static [u8] {
+    b"(define-insn (name twin) (syntax \"\") (format (+ f-rs f-rd (f-op 1))) (semantics (nop)))
+"
+}
+
+/// The words of a line, which stand one blank apart.
+fn words(alloc: Global, line: &[u8]) -> Result<List<Text>, NoMemory> {
+    let mut words = List::new(alloc);
+    for word in line.split(|byte| *byte == b' ') {
+        words.push(Text::of(alloc, word)?)?;
+    }
+    Ok(words)
+}
+
+/// The numbers of the calls that fail.
+fn failing(alloc: Global, numbers: &[u64]) -> Result<List<u64>, NoMemory> {
+    let mut list = List::new(alloc);
+    for number in numbers {
+        list.push(*number)?;
+    }
+    Ok(list)
+}
+
+/// One file of this name, whose text is in these pieces.
+fn file(alloc: Global, name: &[u8], pieces: &[&[u8]]) -> Result<List<Entry>, NoMemory> {
+    let mut bytes = Text::new(alloc);
+    for piece in pieces {
+        bytes.append(piece)?;
+    }
+    let mut entries = List::new(alloc);
+    entries.push(Entry {
+        name: Text::of(alloc, name)?,
+        bytes,
+    })?;
+    Ok(entries)
+}
+
+/// The status of the words, and what was written.
+fn answer(
+    alloc: Global,
+    line: &[u8],
+    files: &mut MemFiles,
+    failing_puts: &[u64],
+) -> Result<(u8, Text), NoMemory> {
+    let words = words(alloc, line)?;
+    let mut out = MemSink::new(alloc, failing(alloc, failing_puts)?)?;
+    let status = cgen(alloc, words.as_slice(), files, &mut out);
+    Ok((status, Text::of(alloc, out.wrote())?))
+}
+
+/// Whether the words are answered so over one file of this name and these pieces.
+fn answers(
+    alloc: Global,
+    line: &[u8],
+    (name, pieces): (&[u8], &[&[u8]]),
+    (status, text): (u8, &[u8]),
+) -> Result<bool, NoMemory> {
+    let entries = file(alloc, name, pieces)?;
+    let mut files = MemFiles::new(alloc, entries, List::new(alloc))?;
+    let (found, written) = answer(alloc, line, &mut files, &[])?;
+    Ok(found == status && written.as_slice() == text)
+}
+
+/// Whether the words are answered so over the description T0.
+fn t0_answers(alloc: Global, line: &[u8], status: u8, text: &[u8]) -> Result<bool, NoMemory> {
+    answers(alloc, line, (b"T0.cpu", &[front(), add()]), (status, text))
+}
+
+/// Whether a description in these pieces is answered so, where it is asked what `1120` is.
+fn is_judged(alloc: Global, pieces: &[&[u8]], status: u8, text: &[u8]) -> Result<bool, NoMemory> {
+    answers(
+        alloc,
+        b"decode a.cpu tiny 1120",
+        (b"a.cpu", pieces),
+        (status, text),
+    )
+}
+
+/// What the definitions say of the rows below. Each is computed.
+fn rows_are_defined()
+    ensures odd { asked (row_words (codes "112")) ≡ None }
+    ensures add { decoded tiny (17 ∷ 32 ∷ []) ≡ codes "add f-rd=1 f-rs=2\n" ∷ [] }
+    ensures none { decoded tiny (33 ∷ 32 ∷ []) ≡ codes "none\n" ∷ [] }
+    ensures short { decoded tiny (17 ∷ []) ≡ codes "none\n" ∷ [] }
+    ensures other { refusal_line (codes "T0.cpu") (no_machine (codes "other")) ≡ codes "E318 T0.cpu:0 other\n" }
+    ensures form { refusal_line (codes "a.cpu") not_thin ≡ codes "E301 a.cpu:0 form\n" }
+{}
+
+#[test]
+fn decode_is_answered(rt: HostRuntime) -> Result<(), Fail> {
+    rows_are_defined();
+    let alloc = rt.alloc();
+    assert!(rt; t0_answers(alloc, b"decode T0.cpu tiny 1120", 0, b"add f-rd=1 f-rs=2\n")?);
+    assert!(rt;
+        t0_answers(
+            alloc,
+            b"decode T0.cpu tiny 1fE0aa",
+            0,
+            b"add f-rd=15 f-rs=14\n"
+        )?
+    );
+    assert!(rt; t0_answers(alloc, b"decode T0.cpu tiny 2120", 0, b"none\n")?);
+    assert!(rt; t0_answers(alloc, b"decode T0.cpu tiny 11", 0, b"none\n")?);
+    assert!(rt;
+        t0_answers(
+            alloc,
+            b"decode T0.cpu other 1120",
+            1,
+            b"E318 T0.cpu:0 other\n"
+        )?
+    );
+    Ok(())
+}
+
+#[test]
+fn words_are_judged(rt: HostRuntime) -> Result<(), Fail> {
+    let alloc = rt.alloc();
+    assert!(rt; t0_answers(alloc, b"decode T0.cpu tiny 112", 2, b"bad words\n")?);
+    assert!(rt; t0_answers(alloc, b"decode T0.cpu tiny 112g", 2, b"bad words\n")?);
+    assert!(rt; t0_answers(alloc, b"decode T0.cpu tiny", 2, b"bad words\n")?);
+    assert!(rt; t0_answers(alloc, b"check T0.cpu tiny", 2, b"bad words\n")?);
+    assert!(rt;
+        t0_answers(
+            alloc,
+            b"decode T1.cpu tiny 1120",
+            3,
+            b"cannot read T1.cpu\n"
+        )?
+    );
+    Ok(())
+}
+
+#[test]
+fn descriptions_are_judged(rt: HostRuntime) -> Result<(), Fail> {
+    let alloc = rt.alloc();
+    let twins = b"add f-rd=1 f-rs=2\ntwin f-rs=2 f-rd=1\n";
+    assert!(rt; is_judged(alloc, &[front()], 0, b"none\n")?);
+    assert!(rt; is_judged(alloc, &[front(), add(), twin()], 0, twins)?);
+    assert!(rt; is_judged(alloc, &[front(), add(), add()], 1, b"E301 a.cpu:0 form\n")?);
+    assert!(rt; is_judged(alloc, &[b""], 1, b"E301 a.cpu:0 form\n")?);
+    assert!(rt; is_judged(alloc, &[b"; x"], 1, b"E101 a.cpu:0 text\n")?);
+    assert!(rt; is_judged(alloc, &[b"("], 1, b"E101 a.cpu:0 text\n")?);
+    Ok(())
+}
+
+/// The status, and whether this text was written, over T0 with a twin where the calls of the
+/// files and the puts with these numbers fail.
+fn faulty(
+    alloc: Global,
+    failing_reads: &[u64],
+    failing_puts: &[u64],
+    text: &[u8],
+) -> Result<(u8, bool), NoMemory> {
+    let entries = file(alloc, b"T0.cpu", &[front(), add(), twin()])?;
+    let mut files = MemFiles::new(alloc, entries, failing(alloc, failing_reads)?)?;
+    let (status, written) = answer(alloc, b"decode T0.cpu tiny 1120", &mut files, failing_puts)?;
+    Ok((status, written.as_slice() == text))
+}
+
+#[test]
+fn faults_make_the_status_three(rt: HostRuntime) -> Result<(), Fail> {
+    let alloc = rt.alloc();
+    assert_eq!(rt;
+        faulty(alloc, &[0], &[], b"cannot read T0.cpu\n")?,
+        (3, true)
+    );
+    // Behind a `put` that failed nothing more is put.
+    assert_eq!(rt; faulty(alloc, &[], &[0], b"")?, (3, true));
+    assert_eq!(rt;
+        faulty(alloc, &[], &[1], b"add f-rd=1 f-rs=2\n")?,
+        (3, true)
+    );
+    Ok(())
+}
