@@ -5,11 +5,12 @@ use Rattle.std.specs.Str.Parse.{digits_value}
 use Rattle.std.specs.Fmt.{digits}
 use Rattle.std.specs.List.{list_all}
 
--- The byte is a digit of the base: `0` to `9`, and from base 11 on letters of either case.
+-- The byte is a digit of the base: `0` to `9` count 0 to 9, and letters of either case 10 and more.
 abbrev pub is_digit_of : ℕ → ℕ → Bool
 is_digit_of base byte = nat_lt (digit_value byte) base
 
--- The number that digits of a base write. No digits write none, nor does another byte among them, nor do more than 64 bits.
+-- The number that a text of digits of a base writes. A text writes none where it has no digit or a byte that is none, or where
+-- the number has more than 64 bits.
 abbrev pub number_in : ℕ → List ℕ → Option ℕ
 number_in base text = if nat_lt 0 (length text) && list_all (is_digit_of base) text && nat_lt (digits_value base text) (2 ^ 64) then Some (digits_value base text) else None
 

@@ -26,11 +26,11 @@ least_signed bits = if bits == 1 then pos 0 else neg_ℤ (pos (2 ^ (bits - 1)))
 abbrev pub greatest_signed : ℕ → ℤ
 greatest_signed bits = if bits == 1 then pos 1 else pos (2 ^ (bits - 1) - 1)
 
--- Bits with a sign stand for no such number.
+-- z is none of the numbers that bits with a sign stand for.
 abbrev pub overflows : ℕ → ℤ → Bool
 overflows bits z = int_lt z (least_signed bits) || int_lt (greatest_signed bits) z
 
--- The bits of a, of which the highest n have gone behind the others.
+-- The bits of a around to the left: the highest n have gone behind the others.
 abbrev pub rotated : ℕ → ℕ → ℕ → ℕ
 rotated bits n a = (a % 2 ^ (bits - n)) * 2 ^ n + a / 2 ^ (bits - n)
 
@@ -39,7 +39,7 @@ abbrev pub flag : Bool → ℕ
 flag true = 1
 flag false = 0
 
--- What `neg`, `inv`, `not` and `abs` give.
+-- What each operation on one number gives. `inv` turns each bit, which makes 2 ^ bits - 1 of a number and its inverse.
 abbrev pub unary_value : UnaryOp → ℕ → ℕ → ℕ
 unary_value Neg bits a = wrapped bits (neg_ℤ (pos a))
 unary_value Inv bits a = 2 ^ bits - 1 - a
@@ -63,8 +63,9 @@ takes_count Rol = true
 takes_count Ror = true
 takes_count _ = false
 
--- What each operation on two numbers gives. `int_div` rounds towards zero, and `int_rem` has the dividend's sign; `int_shr`
--- rounds down, as a shift does that copies the sign. Where all bits with a sign are shifted out, only signs are left.
+-- What each operation on two numbers gives. `int_div` rounds towards zero, and `int_rem`, its remainder, has the dividend's
+-- sign. `int_shr` halves so many times and rounds down, as a shift does that copies the sign: by all bits it leaves nothing
+-- but signs, and more do no more.
 abbrev pub binary_value : BinaryOp → ℕ → ℕ → ℕ → ℕ
 binary_value Add bits a b = wrapped bits (pos a +ℤ pos b)
 binary_value Sub bits a b = wrapped bits (pos a -ℤ pos b)
@@ -96,7 +97,7 @@ binary_value Geu bits a b = flag (nat_le b a)
 abbrev pub binary_answer : BinaryOp → ℕ → ℕ → ℕ → Result ℕ DivideByZero
 binary_answer op bits a b = if divides op && b == 0 then Err (record {}) else Ok (binary_value op bits a b)
 
--- What each operation with a carry gives. The sums and differences are whole numbers, before any bit is lost.
+-- What each operation on two numbers and a carry gives. The flags speak of sums and differences before any bit is lost.
 abbrev pub ternary_value : TernaryOp → ℕ → ℕ → ℕ → ℕ → ℕ
 ternary_value Addc bits a b c = wrapped bits (pos (a + b + c))
 ternary_value Subc bits a b c = wrapped bits (pos a -ℤ pos (b + c))

@@ -25,8 +25,9 @@ pub fn hex(alloc: Global, value: u64) -> Result<Text, NoMemory>
     Text::of(alloc, digits.as_bytes())
 }
 
-/// The number that a text writes: decimal digits, or `0x` and hexadecimal digits of either case.
-/// None exactly where the text is neither, or the number is above 2^64 - 1.
+/// The number that a text writes: decimal digits, or `0x` and hexadecimal digits of either case
+/// (docs/LANGUAGE.md, "Operations"). None exactly where the text is neither, or the number is
+/// above 2^64 - 1.
 pub fn read_number(text: &[u8]) -> Option<u64>
     ensures { result ≡ number_written text.now }
 {
