@@ -1,4 +1,4 @@
-ghost use Rattle.std.specs.Prelude.{◌≡◌, [], ◌∷◌, ◌++◌, ◌<◌, ◌≤◌, length, slice_get, OnOk, OnErr, OnSome, IfNone};
+ghost use Rattle.std.specs.Prelude.{◌≡◌, [], ◌∷◌, ◌++◌, ◌<◌, ◌≤◌, length, slice_get, OnOk, OnErr, OnSome, IfNone, IfOk};
 ghost use Rattle.std.specs.Option.{option_copied};
 ghost use Rattle.std.specs.Cmp.Lexicographic.{pointwise, lists_per, lists_equiv};
 ghost use Rattle.std.specs.List.{AllZip};
@@ -87,6 +87,16 @@ impl<T: Drop> List<T> {
     {
         self.push_copy(x)?;
         Ok(())
+    }
+
+    /// The same elements in just the memory that they need.
+    pub fn fitted(self) -> Result<List<T>, NoMemory>
+        ensures { IfOk result (λ list. list ≡ self) }
+    {
+        let List { mut items } = self;
+        let mut fitted = Vec::with_capacity(*items.allocator(), items.len())?;
+        fitted.append(&mut items)?;
+        Ok(List { items: fitted })
     }
 
     /// `push`, with the error of the library: what a `clone` answers.

@@ -76,7 +76,7 @@ impl Stack {
     {
         match self.lists.pop() {
             Some(Open { forms, line }) => {
-                self.put(Form::Items(forms), line)?;
+                self.put(Form::Items(forms.fitted()?), line)?;
                 Ok(())
             }
             None => Err(refused(self.alloc, self.file, 103, line, b")".as_slice())),
