@@ -1,12 +1,7 @@
 -- Over files that tell what they hold, words are answered in one way alone where no fault comes.
-use Rattle.std.proofs.Common.{◌≡◌, ◌⊎◌, ◌≤◌, ◌<◌, ℕ, List, length, Option, Some, None, sym, ap, subst, ◌∙◌, inl, inr, arith, map}
-use Rattle.std.specs.List.{zip}
+use Rattle.std.proofs.Common.{◌≡◌, ◌⊎◌, ◌≤◌, ◌<◌, ℕ, List, length, Option, Some, None, sym, ap, subst, ◌∙◌, inl, inr, arith}
 use Rattle.std.specs.Prelude.{MatchOption}
-use Rattle.cg_base.specs.declared.form.Form.{Form}
-use Rattle.cg_base.specs.declared.form.Top.{Top}
-use Rattle.cg_base.specs.declared.form.Forms.{Forms}
-use Rattle.cg_base.specs.Reading.{Reads, top}
-use Rattle.cg_sexp.specs.Lines.{one_list}
+use Rattle.cg_sexp.specs.Laws.{one_list, one_fault, not_both}
 use Rattle.cg_io.specs.Held.{Held}
 use Rattle.cg_top.specs.declared.asking.Asked.{Asked}
 use Rattle.cg_top.specs.declared.fetching.Fetched.{Fetched}
@@ -17,20 +12,13 @@ use Rattle.cg_top.specs.Fetching.{IsLacking, IsRead, Gave, IsFetched}
 use Rattle.cg_top.specs.Replies.{bad_words, reply_to}
 use Rattle.cg_top.specs.Answer.{Answers, Answer}
 
--- a text reads as one list of forms
-one_forms : (bytes : List ℕ) (a b : Forms) → Reads bytes 0 a → Reads bytes 0 b → a ≡ b
-one_forms bytes a b p q =
-    let same = one_list bytes p.forms q.forms p.lines q.lines p.spelled q.spelled in
-    let of_tops : List Top → Forms = λ tops. record { tops = tops } in
-    let placed : List Form → List ℕ → List Top = λ forms lines. map (top 0) (zip forms lines) in
-    ap of_tops (p.tops ∙ ap (λ forms. placed forms p.lines) same.0 ∙ ap (λ lines. placed q.forms lines) same.1 ∙ sym q.tops)
-
+-- what a text gives is one
 one_read : (bytes : List ℕ) (a b : Fetched) → IsRead bytes a → IsRead bytes b → a ≡ b
-one_read bytes (Read a) (Read b) p q = ap Read (one_forms bytes a b p q)
-one_read bytes (Read a) (Refused b) p q = absurd (q.1 a p)
+one_read bytes (Read a) (Read b) p q = ap Read (one_list bytes 0 a b p q)
+one_read bytes (Read a) (Refused b) p q = absurd (not_both bytes 0 a b p q)
 one_read bytes (Read a) (Unread b) p q = absurd q
-one_read bytes (Refused a) (Read b) p q = absurd (p.1 b q)
-one_read bytes (Refused a) (Refused b) p q = ap Refused (p.0 ∙ sym q.0)
+one_read bytes (Refused a) (Read b) p q = absurd (not_both bytes 0 b a q p)
+one_read bytes (Refused a) (Refused b) p q = ap Refused (one_fault bytes 0 a b p q)
 one_read bytes (Refused a) (Unread b) p q = absurd q
 one_read bytes (Unread a) b p q = absurd p
 

@@ -1,5 +1,5 @@
 -- What stands in a form.
-use Rattle.std.specs.Prelude.{◌≡◌, ℕ, Bool, false, nat_eq, if◌then◌else◌, List, [], ◌∷◌, Option, Some, None, pos, negsuc}
+use Rattle.std.specs.Prelude.{◌≡◌, ℕ, Bool, true, false, nat_eq, if◌then◌else◌, List, [], ◌∷◌, Option, Some, None, is_some, pos, negsuc, codes}
 use Rattle.std.specs.Cmp.Lexicographic.{pointwise}
 use Rattle.cg_base.specs.declared.Form.{Form, out-Form}
 use Rattle.cg_base.specs.declared.Form.TheOpen.{Form-F, Number, Symbol, Str, Flag, Items}
@@ -82,3 +82,35 @@ symbol_clause name form = clause name form >>= λ x. symbol_of (out-Form x)
 -- The number X, from 0, of a list `(NAME X)`.
 unfoldable pub number_clause : List ℕ → Form → Option ℕ
 number_clause name form = clause name form >>= λ x. number_of (out-Form x)
+
+-- The string in `(comment "..")`.
+unfoldable pub comment_of : Form → Option (List ℕ)
+comment_of form = clause (codes "comment") form >>= λ x. string_of (out-Form x)
+
+abbrev pub is_comment : Form → Bool
+is_comment form = is_some (comment_of form)
+
+abbrev pub is_nothing : Option (List Form) → Bool
+is_nothing (Some []) = true
+is_nothing _ = false
+
+-- The form is `(NAME)`, with nothing behind the name.
+abbrev pub is_empty_clause : List ℕ → Form → Bool
+is_empty_clause name form = is_nothing (headed name form)
+
+-- The forms without the first, where that is such.
+abbrev pub past : (Form → Bool) → List Form → List Form
+past is [] = []
+past is (form ∷ forms) = if is form then forms else form ∷ forms
+
+abbrev pub first : List Form → Option (Form × List Form)
+first [] = None
+first (form ∷ forms) = Some (form, forms)
+
+-- The name that stands first among clauses, and the clauses behind it. Directly behind the name a comment, and then empty
+-- attributes, mean nothing.
+unfoldable pub named : List Form → Option (List ℕ × List Form)
+named clauses = do
+  x ← first clauses
+  name ← symbol_clause (codes "name") x.0
+  Some (name, past (is_empty_clause (codes "attrs")) (past is_comment x.1))

@@ -1,5 +1,5 @@
 -- What a thin description says: an architecture of one machine, one ISA of 16 bits and one cpu, then fields, then
--- instructions, each in its long form.
+-- instructions, each in its long form. Behind a name a comment and empty attributes may stand.
 use Rattle.std.specs.Prelude.{◌≡◌, ℕ, ◌+◌, ◌^◌, Bool, true, false, ◌&&◌, ◌||◌, nat_eq, nat_lt, nat_le, if◌then◌else◌, List, [], ◌∷◌, length, map, find, take, drop, count_by, take_while, Option, Some, None, is_some, is_none, codes}
 use Rattle.std.specs.List.{list_all, prefix_len}
 use Rattle.cg_base.specs.declared.form.Top.{Top}
@@ -9,46 +9,46 @@ use Rattle.cg_top.specs.declared.machine.Field.{Field}
 use Rattle.cg_top.specs.declared.machine.Part.{Part}
 use Rattle.cg_top.specs.declared.machine.Insn.{Insn}
 use Rattle.cg_top.specs.declared.machine.Machine.{Machine}
-use Rattle.cg_top.specs.Shape.{◌>>=◌, same, two, three, four, Level, symbol_of, number_of, string_of, is_symbol, headed, clause, symbol_clause, number_clause}
+use Rattle.cg_top.specs.Shape.{◌>>=◌, same, one, two, three, four, named, is_nothing, is_empty_clause, Level, symbol_of, number_of, string_of, is_symbol, headed, clause, symbol_clause, number_clause}
 use Rattle.cg_top.specs.Names.{distinct}
 
 -- `(define-arch (name N) (machs M) (isas I))`: M and I.
 unfoldable pub arch_of : Form → Option (List ℕ × List ℕ)
 arch_of form = do
   clauses ← headed (codes "define-arch") form
-  x ← three clauses
-  name ← symbol_clause (codes "name") x.0
-  mach ← symbol_clause (codes "machs") x.1
-  isa ← symbol_clause (codes "isas") x.2
+  n ← named clauses
+  x ← two n.1
+  mach ← symbol_clause (codes "machs") x.0
+  isa ← symbol_clause (codes "isas") x.1
   Some (mach, isa)
 
 -- `(define-isa (name I) (base-insn-bitsize 16))`: I.
 unfoldable pub isa_of : Form → Option (List ℕ)
 isa_of form = do
   clauses ← headed (codes "define-isa") form
-  x ← two clauses
-  name ← symbol_clause (codes "name") x.0
-  size ← number_clause (codes "base-insn-bitsize") x.1
-  if nat_eq size 16 then Some name else None
+  n ← named clauses
+  x ← one n.1
+  size ← number_clause (codes "base-insn-bitsize") x
+  if nat_eq size 16 then Some n.0 else None
 
 -- `(define-cpu (name C) (endian big) (word-bitsize 32))`: C.
 unfoldable pub cpu_of : Form → Option (List ℕ)
 cpu_of form = do
   clauses ← headed (codes "define-cpu") form
-  x ← three clauses
-  name ← symbol_clause (codes "name") x.0
-  endian ← clause (codes "endian") x.1
-  size ← number_clause (codes "word-bitsize") x.2
-  if is_symbol (codes "big") endian && nat_eq size 32 then Some name else None
+  n ← named clauses
+  x ← two n.1
+  endian ← clause (codes "endian") x.0
+  size ← number_clause (codes "word-bitsize") x.1
+  if is_symbol (codes "big") endian && nat_eq size 32 then Some n.0 else None
 
 -- `(define-mach (name M) (cpu C))`: M and C.
 unfoldable pub mach_of : Form → Option (List ℕ × List ℕ)
 mach_of form = do
   clauses ← headed (codes "define-mach") form
-  x ← two clauses
-  name ← symbol_clause (codes "name") x.0
-  cpu ← symbol_clause (codes "cpu") x.1
-  Some (name, cpu)
+  n ← named clauses
+  x ← one n.1
+  cpu ← symbol_clause (codes "cpu") x
+  Some (n.0, cpu)
 
 -- The first four forms, and those behind them.
 abbrev pub four_in_front : List Top → Option (Top × Top × Top × Top × List Top)
@@ -73,11 +73,11 @@ fits_word start len = nat_le 1 len && nat_le (start + len) 16
 unfoldable pub field_shape : Form → Option (List ℕ × ℕ × ℕ)
 field_shape form = do
   clauses ← headed (codes "define-ifield") form
-  x ← three clauses
-  name ← symbol_clause (codes "name") x.0
-  start ← number_clause (codes "start") x.1
-  len ← number_clause (codes "length") x.2
-  Some (name, start, len)
+  n ← named clauses
+  x ← two n.1
+  start ← number_clause (codes "start") x.0
+  len ← number_clause (codes "length") x.1
+  Some (n.0, start, len)
 
 unfoldable pub field_of : Form → Option Field
 field_of form = do
@@ -153,19 +153,22 @@ format_of fields form = do
 unfoldable pub nop_shape : Form → Option (List Form)
 nop_shape form = clause (codes "semantics") form >>= headed (codes "nop")
 
-abbrev pub is_nop : Option (List Form) → Bool
-is_nop (Some []) = true
-is_nop _ = false
+abbrev pub untimed : Form × Form × Form × Form → Option (Form × Form × Form)
+untimed (a, b, c, d) = if is_empty_clause (codes "timing") d then Some (a, b, c) else None
+
+-- The three clauses behind an instruction's name. An empty timing behind them means nothing.
+abbrev pub three_or_timed : List Form → Option (Form × Form × Form)
+three_or_timed clauses = elim (four clauses) [ None ↦ three clauses | Some x ↦ untimed x ]
 
 -- `(define-insn (name X) (syntax "..") FORMAT (semantics (nop)))`: X and FORMAT. Any string is a syntax.
 unfoldable pub insn_shape : Form → Option (List ℕ × Form)
 insn_shape form = do
   clauses ← headed (codes "define-insn") form
-  x ← four clauses
-  name ← symbol_clause (codes "name") x.0
-  syntax ← clause (codes "syntax") x.1
+  n ← named clauses
+  x ← three_or_timed n.1
+  syntax ← clause (codes "syntax") x.0
   bytes ← string_of (out-Form syntax)
-  if is_nop (nop_shape x.3) then Some (name, x.2) else None
+  if is_nothing (nop_shape x.2) then Some (n.0, x.1) else None
 
 unfoldable pub insn_of : List Field → Form → Option Insn
 insn_of fields form = do

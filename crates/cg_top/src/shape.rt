@@ -1,7 +1,7 @@
-ghost use Rattle.std.specs.Prelude.{◌≡◌};
+ghost use Rattle.std.specs.Prelude.{◌≡◌, codes};
 ghost use Rattle.std.specs.Option.{option_copied, option_map};
 ghost use Rattle.cg_base.specs.declared.Form.{out-Form};
-ghost use Rattle.cg_top.specs.Shape.{one, two, three, four, symbol_of, number_of, string_of, items_of, is_symbol, headed, clause, symbol_clause, number_clause};
+ghost use Rattle.cg_top.specs.Shape.{one, two, three, four, symbol_of, number_of, string_of, items_of, is_symbol, headed, clause, symbol_clause, number_clause, comment_of, is_comment, is_empty_clause, past, named};
 
 use cg_base::{Form, Text};
 
@@ -128,4 +128,63 @@ pub fn number_clause(form: &Form, name: &[u8]) -> Option<u64>
     ensures { result ≡ number_clause name.now form.now }
 {
     number(clause(form, name)?)
+}
+
+/// The string of a list `(comment "..")`.
+#[tactic(auto, unfolding(crate::specs::Shape::comment_of))]
+fn comment_of(form: &Form) -> Option<&Text>
+    ensures { option_copied result ≡ comment_of form.now }
+{
+    string(clause(form, b"comment".as_slice())?)
+}
+
+fn is_comment(form: &Form) -> bool
+    ensures { result ≡ is_comment form.now }
+{
+    comment_of(form).is_some()
+}
+
+/// Whether the form is `(NAME)`, with nothing behind the name.
+pub fn is_empty_clause(form: &Form, name: &[u8]) -> bool
+    ensures { result ≡ is_empty_clause name.now form.now }
+{
+    match headed(form, name) {
+        Some(forms) => forms.is_empty(),
+        None => false,
+    }
+}
+
+fn past_comment(forms: &[Form]) -> &[Form]
+    ensures { result.now ≡ past is_comment forms.now }
+{
+    match forms.split_first() {
+        None => forms,
+        Some((first, rest)) => { if is_comment(first) { rest } else { forms } }
+    }
+}
+
+fn past_attrs(forms: &[Form]) -> &[Form]
+    ensures { result.now ≡ past (is_empty_clause (codes "attrs")) forms.now }
+{
+    match forms.split_first() {
+        None => forms,
+        Some((first, rest)) => {
+            if is_empty_clause(first, b"attrs".as_slice()) {
+                rest
+            } else {
+                forms
+            }
+        }
+    }
+}
+
+/// The name that stands first among clauses, and the clauses behind it, past a comment and then
+/// empty attributes.
+#[tactic(auto, unfolding(crate::specs::Shape::named))]
+pub fn named(clauses: &[Form]) -> Option<(&Text, &[Form])>
+    ensures { option_map (λ x. (x.0.now, x.1.now)) result ≡ named clauses.now }
+{
+    let (name, rest) = clauses.split_first()?;
+    let name = symbol_clause(name, b"name".as_slice())?;
+    Some((name, past_attrs(past_comment(rest))))
 }

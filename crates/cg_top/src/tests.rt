@@ -171,8 +171,15 @@ fn descriptions_are_judged(rt: HostRuntime) -> Result<(), Fail> {
     assert!(rt; is_judged(alloc, &[front(), add(), twin()], 0, twins)?);
     assert!(rt; is_judged(alloc, &[front(), add(), add()], 1, b"E301 a.cpu:0 form\n")?);
     assert!(rt; is_judged(alloc, &[b""], 1, b"E301 a.cpu:0 form\n")?);
-    assert!(rt; is_judged(alloc, &[b"; x"], 1, b"E101 a.cpu:0 text\n")?);
-    assert!(rt; is_judged(alloc, &[b"("], 1, b"E101 a.cpu:0 text\n")?);
+    assert!(rt; is_judged(alloc, &[b"; x"], 1, b"E301 a.cpu:0 form\n")?);
+    assert!(rt; is_judged(alloc, &[b"("], 1, b"E102 a.cpu:1 list\n")?);
+    assert!(rt; is_judged(alloc, &[front(), b"\n#q"], 1, b"E101 a.cpu:10 #q\n")?);
+    let noted =
+        b"(define-insn (name add) (comment \"; x\") (attrs) (syntax \"\") (format (+ (f-op #x1))) (semantics (nop)) (timing))";
+    assert!(rt; is_judged(alloc, &[front(), noted], 0, b"add\n")?);
+    let timed =
+        b"(define-insn (name add) (syntax \"\") (format (+ (f-op 1))) (semantics (nop)) (timing 1))";
+    assert!(rt; is_judged(alloc, &[front(), timed], 1, b"E301 a.cpu:0 form\n")?);
     Ok(())
 }
 

@@ -2,15 +2,16 @@ ghost use Rattle.std.specs.Prelude.{◌≡◌, ◌≤◌, ◌^◌, count_by, len
 ghost use Rattle.std.specs.Option.{option_copied, option_map};
 ghost use Rattle.std.specs.List.{list_all, prefix_len};
 ghost use Rattle.cg_base.specs.declared.Form.{out-Form};
-ghost use Rattle.cg_top.specs.Thin.{arch_of, isa_of, cpu_of, mach_of, frame_of, fits_word, field_shape, field_of, is_field, each, fields_of, part_shape, constant_shape, fits_field, part_of, is_apart, are_apart, is_bare, format_shape, format_of, nop_shape, is_nop, insn_shape, insn_of, insns_of, thin};
+ghost use Rattle.cg_top.specs.Thin.{arch_of, isa_of, cpu_of, mach_of, frame_of, fits_word, field_shape, field_of, is_field, each, fields_of, part_shape, constant_shape, fits_field, part_of, is_apart, are_apart, is_bare, format_shape, format_of, nop_shape, three_or_timed, insn_shape, insn_of, insns_of, thin};
+ghost use Rattle.cg_top.specs.Shape.{is_nothing};
 ghost use Rattle.cg_top.specs.Gives.{Gives};
 
 use crate::machine::{Field, Insn, Machine, Part};
 use crate::misfit::Misfit;
 use crate::names::{are_distinct, find_field};
 use crate::shape::{
-    clause, four, headed, is_symbol, number, number_clause, string, symbol, symbol_clause, three,
-    two,
+    clause, four, headed, is_empty_clause, is_symbol, named, number, number_clause, one, string,
+    symbol, symbol_clause, three, two,
 };
 use cg_base::{Form, List, Text, Top};
 use std::alloc::Global;
@@ -26,8 +27,8 @@ const MOST_BARE: usize = 16;
 fn arch_of(form: &Form) -> Option<(&Text, &Text)>
     ensures { option_map (λ x. (x.0.now, x.1.now)) result ≡ arch_of form.now }
 {
-    let (name, machs, isas) = three(headed(form, b"define-arch".as_slice())?)?;
-    let _ = symbol_clause(name, b"name".as_slice())?;
+    let (_, clauses) = named(headed(form, b"define-arch".as_slice())?)?;
+    let (machs, isas) = two(clauses)?;
     let mach = symbol_clause(machs, b"machs".as_slice())?;
     let isa = symbol_clause(isas, b"isas".as_slice())?;
     Some((mach, isa))
@@ -38,9 +39,8 @@ fn arch_of(form: &Form) -> Option<(&Text, &Text)>
 fn isa_of(form: &Form) -> Option<&Text>
     ensures { option_copied result ≡ isa_of form.now }
 {
-    let (name, size) = two(headed(form, b"define-isa".as_slice())?)?;
-    let name = symbol_clause(name, b"name".as_slice())?;
-    let size = number_clause(size, b"base-insn-bitsize".as_slice())?;
+    let (name, clauses) = named(headed(form, b"define-isa".as_slice())?)?;
+    let size = number_clause(one(clauses)?, b"base-insn-bitsize".as_slice())?;
     if size == 16 { Some(name) } else { None }
 }
 
@@ -49,8 +49,8 @@ fn isa_of(form: &Form) -> Option<&Text>
 fn cpu_of(form: &Form) -> Option<&Text>
     ensures { option_copied result ≡ cpu_of form.now }
 {
-    let (name, endian, size) = three(headed(form, b"define-cpu".as_slice())?)?;
-    let name = symbol_clause(name, b"name".as_slice())?;
+    let (name, clauses) = named(headed(form, b"define-cpu".as_slice())?)?;
+    let (endian, size) = two(clauses)?;
     let endian = clause(endian, b"endian".as_slice())?;
     let size = number_clause(size, b"word-bitsize".as_slice())?;
     if is_symbol(endian, b"big".as_slice()) && size == 32 {
@@ -65,9 +65,8 @@ fn cpu_of(form: &Form) -> Option<&Text>
 fn mach_of(form: &Form) -> Option<(&Text, &Text)>
     ensures { option_map (λ x. (x.0.now, x.1.now)) result ≡ mach_of form.now }
 {
-    let (name, cpu) = two(headed(form, b"define-mach".as_slice())?)?;
-    let name = symbol_clause(name, b"name".as_slice())?;
-    let cpu = symbol_clause(cpu, b"cpu".as_slice())?;
+    let (name, clauses) = named(headed(form, b"define-mach".as_slice())?)?;
+    let cpu = symbol_clause(one(clauses)?, b"cpu".as_slice())?;
     Some((name, cpu))
 }
 
@@ -106,8 +105,8 @@ fn fits_word(start: u64, len: u64) -> bool
 fn field_shape(form: &Form) -> Option<(&Text, u64, u64)>
     ensures { option_map (λ x. (x.0.now, x.1, x.2)) result ≡ field_shape form.now }
 {
-    let (name, start, len) = three(headed(form, b"define-ifield".as_slice())?)?;
-    let name = symbol_clause(name, b"name".as_slice())?;
+    let (name, clauses) = named(headed(form, b"define-ifield".as_slice())?)?;
+    let (start, len) = two(clauses)?;
     let start = number_clause(start, b"start".as_slice())?;
     let len = number_clause(len, b"length".as_slice())?;
     Some((name, start, len))
@@ -314,11 +313,27 @@ fn nop_shape(form: &Form) -> Option<&[Form]>
 }
 
 fn is_nop(form: &Form) -> bool
-    ensures { result ≡ is_nop (nop_shape form.now) }
+    ensures { result ≡ is_nothing (nop_shape form.now) }
 {
     match nop_shape(form) {
         Some(arguments) => arguments.is_empty(),
         None => false,
+    }
+}
+
+/// The three clauses behind an instruction's name, before an empty `timing` or at the end.
+fn three_or_timed(clauses: &[Form]) -> Option<(&Form, &Form, &Form)>
+    ensures { option_map (λ x. (x.0.now, x.1.now, x.2.now)) result ≡ three_or_timed clauses.now }
+{
+    match four(clauses) {
+        None => three(clauses),
+        Some((syntax, format, semantics, timing)) => {
+            if is_empty_clause(timing, b"timing".as_slice()) {
+                Some((syntax, format, semantics))
+            } else {
+                None
+            }
+        }
     }
 }
 
@@ -327,8 +342,8 @@ fn is_nop(form: &Form) -> bool
 fn insn_shape(form: &Form) -> Option<(&Text, &Form)>
     ensures { option_map (λ x. (x.0.now, x.1.now)) result ≡ insn_shape form.now }
 {
-    let (name, syntax, format, semantics) = four(headed(form, b"define-insn".as_slice())?)?;
-    let name = symbol_clause(name, b"name".as_slice())?;
+    let (name, clauses) = named(headed(form, b"define-insn".as_slice())?)?;
+    let (syntax, format, semantics) = three_or_timed(clauses)?;
     let _ = string(clause(syntax, b"syntax".as_slice())?)?;
     if is_nop(semantics) {
         Some((name, format))
