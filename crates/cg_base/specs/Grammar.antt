@@ -1,7 +1,6 @@
 -- Which forms a text spells, and on which lines they begin.
 use Rattle.std.specs.Prelude.{◌≡◌, ℕ, suc, ◌+◌, ◌-◌, ◌^◌, min, Bool, true, false, not, ◌&&◌, ◌||◌, ◌==◌, nat_lt, nat_le, if◌then◌else◌, List, [], ◌∷◌, ◌++◌, length, Option, Some, None, Result, Ok, Err, pos, negsuc}
 use Rattle.std.specs.List.{list_all}
-use Rattle.std.specs.Char.{digit_value}
 use Rattle.std.specs.Str.Parse.{digits_value}
 use Rattle.cg_base.specs.declared.kind.Kind.{Kind}
 use Rattle.cg_base.specs.declared.kind.Kind.TheVariants.{Blank, Letter, Opening, Closing, Quote, Semicolon, Foreign}
@@ -9,6 +8,7 @@ use Rattle.cg_base.specs.declared.kind.NoToken.{NoToken}
 use Rattle.cg_base.specs.declared.kind.NoToken.TheVariants.{Unknown, OutOfRange}
 use Rattle.cg_base.specs.declared.form.Form.{Form}
 use Rattle.cg_base.specs.declared.form.Form.TheVariants.{Number, Symbol, Str, Flag, Items}
+use Rattle.cg_base.specs.Numerals.{is_digit_of}
 
 -- What a byte does outside strings and comments.
 abbrev pub kind_of : ℕ → Kind
@@ -36,7 +36,7 @@ starts_token (b ∷ bs) = is_letter (kind_of b)
 
 -- one digit of the base or more
 abbrev pub are_digits : ℕ → List ℕ → Bool
-are_digits base bs = nat_lt 0 (length bs) && list_all (λ b. nat_lt (digit_value b) base) bs
+are_digits base bs = nat_lt 0 (length bs) && list_all (is_digit_of base) bs
 
 -- n as a number of 64 bits with a sign
 abbrev pub positive : ℕ → Result Form NoToken

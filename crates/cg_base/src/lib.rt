@@ -19,7 +19,7 @@ pub use form::{Form, Forms, Top};
 pub use kind::{Kind, NoToken};
 pub use list::List;
 pub use mode::{Endian, Mode, bits, signed};
-pub use number::{decimal, hex, read_number};
+pub use number::{decimal, hex, read_digits, read_number};
 pub use operation::{BinaryOp, DivideByZero, TernaryOp, UnaryOp, binary, convert, ternary, unary};
 pub use refusal::{NoMemory, Refusal, Stop};
 pub use text::Text;

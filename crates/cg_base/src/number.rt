@@ -37,8 +37,10 @@ pub fn read_number(text: &[u8]) -> Option<u64>
     }
 }
 
-/// The number that digits of a base write.
-fn read_digits(base: u32, digits: &[u8]) -> Option<u64>
+/// The number that digits of a base from 2 to 36 write, above 10 with letters of either case.
+/// None exactly where there are none, another byte stands among them, or the number is above
+/// 2^64 - 1.
+pub fn read_digits(base: u32, digits: &[u8]) -> Option<u64>
     requires low { 2 ≤ base }
     requires high { base ≤ 36 }
     ensures { result ≡ number_in base digits.now }

@@ -283,6 +283,7 @@ fn lists_and_texts(rt: HostRuntime) -> Result<(), Fail> {
     list.push(8)?;
     assert_eq!(rt; list.clone()?.as_slice(), [7, 8].as_slice());
     assert_eq!(rt; list.get(1).copied(), Some(8));
+    assert_eq!(rt; list.fitted()?.as_slice(), [7, 8].as_slice());
     let mut text = Text::of(rt.alloc(), b"add")?;
     text.push(b'i')?;
     text.append(b" r1")?;

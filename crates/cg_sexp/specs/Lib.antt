@@ -8,4 +8,3 @@ pub mod Sound
 pub mod Laws
 pub mod Printed
 pub mod Last
-pub mod Digits

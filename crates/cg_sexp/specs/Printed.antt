@@ -16,6 +16,7 @@ use Rattle.cg_base.specs.declared.form.Form.{Form}
 use Rattle.cg_base.specs.declared.form.Form.TheVariants as form
 use Rattle.cg_base.specs.declared.form.Form.TheOpen.{Form-F, Number, Symbol, Str, Flag, Items}
 use Rattle.cg_base.specs.declared.form.Form.TheFolds.{fold-roll-Form}
+use Rattle.cg_base.specs.Numerals.{is_digit_of}
 use Rattle.cg_base.specs.Grammar.{kind_of, AreLetters, starts_token, are_digits, positive, negative, token, is_string_byte, escape, Written, empty, byte, escaped, IsSpace, blank, IsLeaf, word, quoted, Spells, done, space, leaf, list, next_line, line_after}
 use Rattle.cg_base.specs.Reading.{top, ended, Reads}
 use Rattle.cg_sexp.specs.Taken.{leaf_before}
@@ -32,7 +33,7 @@ digit_letters (b ∷ ds) h = ((digit_byte b h.0).0, digit_letters ds h.1)
 below : (a b : ℕ) → a < b → nat_lt a b ≡ true
 below a b h = grind arith
 
-all_digits : (ds : List ℕ) → AllDigits 10 ds → list_all (λ b. nat_lt (digit_value b) 10) ds ≡ true
+all_digits : (ds : List ℕ) → AllDigits 10 ds → list_all (is_digit_of 10) ds ≡ true
 all_digits [] h = refl
 all_digits (b ∷ ds) h = rw (below (digit_value b) 10 h.0) (all_digits ds h.1)
 

@@ -1,4 +1,4 @@
-use crate::read;
+use crate::{clause, print, read};
 use cg_base::{Form, Forms, List, NoMemory, Stop, Text, Top};
 use std::alloc::Global;
 use std::test::Fail;
@@ -260,4 +260,63 @@ fn open_and_closed_too_often(rt: HostRuntime) {
     for (text, number, line, fault) in texts {
         assert!(rt; refuses(rt.alloc(), text, number, line, fault));
     }
+}
+
+/// The last form of a text, or `#f`.
+fn form_of(alloc: Global, text: &[u8]) -> Result<Form, Stop> {
+    match read(alloc, text, 0)?.tops.into_vec().pop() {
+        Some(top) => Ok(top.form),
+        None => Ok(Form::Flag(false)),
+    }
+}
+
+#[test]
+fn forms_are_printed(rt: HostRuntime) -> Result<(), Fail> {
+    let texts = [
+        (
+            b"( (r0\n0)(r1 1);\n(r2 +02) )".as_slice(),
+            b"((r0 0) (r1 1) (r2 2))".as_slice(),
+        ),
+        (
+            b"(#x-ff #f #t ())".as_slice(),
+            b"(-255 #f #t ())".as_slice(),
+        ),
+        (
+            b"-9223372036854775808".as_slice(),
+            b"-9223372036854775808".as_slice(),
+        ),
+        (
+            b"\"a\\\"b\\\\c\\nd\\te\\\n\"".as_slice(),
+            b"\"a\\\"b\\\\c\nd\te\"".as_slice(),
+        ),
+    ];
+    for (text, printed) in texts {
+        let form = form_of(rt.alloc(), text)?;
+        let again = print(rt.alloc(), &form)?;
+        assert_eq!(rt; again.as_slice(), printed);
+        assert!(rt; form_of(rt.alloc(), again.as_slice())? == form);
+    }
+    Ok(())
+}
+
+/// Whether the clause of this name is this form.
+fn has_clause(form: &Form, name: &[u8], wanted: &Form) -> bool {
+    match clause(form, name) {
+        Some(found) => found == wanted,
+        None => false,
+    }
+}
+
+#[test]
+fn clauses_of_a_form(rt: HostRuntime) -> Result<(), Fail> {
+    let text = b"((name a) name \"name\" () (name b) (name c) (length 4))".as_slice();
+    let form = form_of(rt.alloc(), text)?;
+    let name = form_of(rt.alloc(), b"(name b)".as_slice())?;
+    let length = form_of(rt.alloc(), b"(length 4)".as_slice())?;
+    assert!(rt; has_clause(&form, b"name".as_slice(), &name));
+    assert!(rt; has_clause(&form, b"length".as_slice(), &length));
+    assert!(rt; clause(&form, b"nam".as_slice()).is_none());
+    assert!(rt; clause(&form, b"start".as_slice()).is_none());
+    assert!(rt; clause(&Form::Flag(true), b"name".as_slice()).is_none());
+    Ok(())
 }

@@ -1,54 +1,24 @@
-ghost use Rattle.std.specs.Prelude.{◌≡◌, ◌<◌, ◌≤◌, ◌^◌, ◌++◌, ◌∷◌, [], nat_lt};
-ghost use Rattle.std.specs.Option.{SomeIff};
+ghost use Rattle.std.specs.Prelude.{◌≡◌, ◌≤◌, true};
 ghost use Rattle.std.specs.List.{list_all};
-ghost use Rattle.std.specs.Char.{digit_value};
 ghost use Rattle.std.specs.Str.Parse.{digits_value};
 ghost use Rattle.cg_base.specs.Grammar.{token, marked, based, positive, negative, are_digits};
 ghost use Rattle.cg_base.specs.Faults.{refused_as};
+ghost use Rattle.cg_base.specs.Numerals.{is_digit_of};
 
-use cg_base::{Form, NoToken, Text};
+use cg_base::{Form, NoToken, Text, read_digits};
 
-/// The value of a digit, in bases up to 36, and 36 for a byte that is none.
-fn digit_value(byte: u8) -> u8
-    ensures { result ≡ digit_value byte }
+fn all_are_digits(base: u32, bytes: &[u8]) -> bool
+    requires { (2 ≤ base) × (base ≤ 36) }
+    ensures { result ≡ list_all (is_digit_of base) bytes.now }
 {
-    match byte {
-        b'0'..=b'9' => byte - b'0',
-        b'A'..=b'Z' => byte - b'A' + 10,
-        b'a'..=b'z' => byte - b'a' + 10,
-        _ => 36,
-    }
+    bytes.iter().all(|byte| char::from(*byte).is_digit(base))
 }
 
-fn all_are_digits(base: u8, bytes: &[u8]) -> bool
-    ensures { result ≡ list_all (λ b. nat_lt (digit_value b) base) bytes.now }
-{
-    bytes.iter().all(|b| digit_value(*b) < base)
-}
-
-fn are_digits(base: u8, bytes: &[u8]) -> bool
+fn are_digits(base: u32, bytes: &[u8]) -> bool
+    requires { (2 ≤ base) × (base ≤ 36) }
     ensures { result ≡ are_digits base bytes.now }
 {
-    bytes.len() > 0 && all_are_digits(base, bytes)
-}
-
-/// The number whose digits these are, where it has 64 bits.
-fn magnitude(base: u8, digits: &[u8]) -> Option<u64>
-    requires { 1 ≤ base }
-    ensures { SomeIff result (digits_value base digits.now < 2 ^ 64) (digits_value base digits.now) }
-{
-    let mut value = 0u64;
-    for digit in digits {
-        let digit = u64::from(digit_value(*digit));
-        let Some(shifted) = value.checked_mul(u64::from(base)) else {
-            return None;
-        };
-        let Some(next) = shifted.checked_add(digit) else {
-            return None;
-        };
-        value = next;
-    }
-    Some(value)
+    !bytes.is_empty() && all_are_digits(base, bytes)
 }
 
 fn positive_form(value: u64) -> Result<Form, NoToken>
@@ -73,29 +43,31 @@ fn negative_form(value: u64) -> Result<Form, NoToken>
     }
 }
 
-fn positive(base: u8, digits: &[u8]) -> Result<Form, NoToken>
-    requires { 1 ≤ base }
+fn positive(base: u32, digits: &[u8]) -> Result<Form, NoToken>
+    requires base { (2 ≤ base) × (base ≤ 36) }
+    requires digits { are_digits base digits.now ≡ true }
     ensures { result ≡ positive (digits_value base digits.now) }
 {
-    match magnitude(base, digits) {
+    match read_digits(base, digits) {
         Some(value) => positive_form(value),
         None => Err(NoToken::OutOfRange),
     }
 }
 
-fn negative(base: u8, digits: &[u8]) -> Result<Form, NoToken>
-    requires { 1 ≤ base }
+fn negative(base: u32, digits: &[u8]) -> Result<Form, NoToken>
+    requires base { (2 ≤ base) × (base ≤ 36) }
+    requires digits { are_digits base digits.now ≡ true }
     ensures { result ≡ negative (digits_value base digits.now) }
 {
-    match magnitude(base, digits) {
+    match read_digits(base, digits) {
         Some(value) => negative_form(value),
         None => Err(NoToken::OutOfRange),
     }
 }
 
 /// What stands behind `#x`, `#o` or `#b`.
-fn based(base: u8, bytes: &[u8]) -> Result<Form, NoToken>
-    requires { 1 ≤ base }
+fn based(base: u32, bytes: &[u8]) -> Result<Form, NoToken>
+    requires { (2 ≤ base) × (base ≤ 36) }
     ensures { result ≡ based base bytes.now }
 {
     let Some((first, rest)) = bytes.split_first() else {
