@@ -1,4 +1,4 @@
 pub mod Words
-pub mod Values
+pub mod Widths
 pub mod ByteOrders
 pub mod Readings

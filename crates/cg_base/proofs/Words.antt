@@ -11,6 +11,7 @@ use Rattle.std.proofs.lemmas.Bool.Decides.{nat_tests}
 use Rattle.std.proofs.lemmas.Nat.Bits.{ones_shr}
 use Rattle.cg_base.specs.Operations.{wrapped, as_signed, rotated, overflows}
 
+-- the mask of the lowest k bits
 pub lowest_bits : (k n : ℕ) → 1 ≤ k → k ≤ 64 → bit_and n (18446744073709551615 / 2 ^ (64 - k)) ≡ n % 2 ^ k
 lowest_bits k n some few =
     let e : 64 - (64 - k) ≡ k = omega arith in
@@ -22,6 +23,7 @@ word k few =
     let e : (64 - k) + k ≡ 64 = omega arith in
     sym (pow-add 2 (64 - k) k) ∙ ap (λ j. 2 ^ j) e
 
+-- what is left of a multiple of p
 split : (t q r p n : ℕ) → q * p + r ≡ n → r < p → (t + 1 + q) * p - suc n ≡ t * p + (p - 1 - r)
 split t q r p n e below = omega arith
 
@@ -35,6 +37,7 @@ complement k n m h =
     ∙ ap (λ x. x % 2 ^ k) (split (m - 1 - n / 2 ^ k) (n / 2 ^ k) (n % 2 ^ k) (2 ^ k) n (shr_split n k) rest)
     ∙ mod_low (m - 1 - n / 2 ^ k) k (2 ^ k - 1 - n % 2 ^ k) (omega arith)
 
+-- the lowest bits of the word that holds a number are the number modulo 2 ^ k
 pub wrapped_bits : (k : ℕ) (z : ℤ) → k ≤ 64 → unsigned_abs z ≤ 2 ^ 64 → cast_unsigned w64 z % 2 ^ k ≡ wrapped k z
 wrapped_bits k (pos n) few fits = refl
 wrapped_bits k (negsuc n) few fits =
@@ -58,6 +61,7 @@ lowest_in k n r q few e =
 pub lowest_of_lowest : (k n : ℕ) → k ≤ 64 → n % 2 ^ 64 % 2 ^ k ≡ n % 2 ^ k
 lowest_of_lowest k n few = lowest_in k n (n % 2 ^ 64) (n / 2 ^ 64) few (shr_split n 64)
 
+-- a sum that was cut to a word on the way
 folded : (m c : ℕ) → (m / 2 ^ 64 + (m % 2 ^ 64 + c) / 2 ^ 64) * 2 ^ 64 + (m % 2 ^ 64 + c) % 2 ^ 64 ≡ m + c
 folded m c = omega (arith, shr_split m 64, shr_split (m % 2 ^ 64 + c) 64)
 
@@ -67,6 +71,7 @@ lowest_of_two k m c few = lowest_in k (m + c) ((m % 2 ^ 64 + c) % 2 ^ 64) (m / 2
 pub lowest_of_sum : (k a b c : ℕ) → k ≤ 64 → ((a + b) % 2 ^ 64 + c) % 2 ^ 64 % 2 ^ k ≡ (a + b + c) % 2 ^ k
 lowest_of_sum k a b c few = lowest_of_two k (a + b) c few
 
+-- what differs from z by a multiple of 2 ^ k
 wrapped_is : (k q m : ℕ) (z : ℤ) → z +ℤ pos (q * 2 ^ k) ≡ pos m → wrapped k z ≡ m % 2 ^ k
 wrapped_is k q m z e = ap unsigned_abs (int_rem_euclid_is z (pos (2 ^ k)) (2 ^ k) q m (pow_pos k) refl e)
 
@@ -75,6 +80,7 @@ lowest_of_difference k a b c few fb fc =
     lowest_of_two k (a + (2 ^ 64 - b)) (2 ^ 64 - c) few
     ∙ sym (wrapped_is k (2 * 2 ^ (64 - k)) (a + (2 ^ 64 - b) + (2 ^ 64 - c)) (pos a -ℤ pos (b + c)) (omega (arith, ints, word k few)))
 
+-- a number whose highest bit is a sign, read through 128 bits
 high_read : (k a h p : ℕ) → h ≤ a → a < p → p ≡ h + h → h ≤ 2 ^ 63
     → cast_signed w64 (cast_unsigned w64 (cast_signed w128 (cast_unsigned w128 (cast_signed w128 a -ℤ cast_signed w128 p)))) ≡ pos a -ℤ pos p
 high_read k a h p low high e few = omega (arith, ints)
@@ -104,10 +110,12 @@ wrapped_again k z few small fits =
     ∙ ap (λ x. x % 2 ^ k) (of_z-to_z w64 (cast_unsigned w64 z) fits)
     ∙ wrapped_bits k z few (omega arith)
 
+-- a number of 64 bits with a sign fits a word
 word_of : (z : ℤ) → unsigned_abs z ≤ 2 ^ 63 → cast_unsigned w64 z < 2 ^ 64
 word_of (pos n) h = omega arith
 word_of (negsuc n) h = omega arith
 
+-- the size of a quotient
 unsigned_abs-neg : (n : ℕ) → unsigned_abs (neg_ℤ (pos n)) ≡ n
 unsigned_abs-neg zero = refl
 unsigned_abs-neg (suc n) = refl
@@ -127,15 +135,18 @@ wrapped_quotient k s t few fits =
     let small : unsigned_abs (int_div s t) ≤ 2 ^ 63 = omega (arith, unsigned_abs-div s t, unsigned_abs-fits s fits) in
     wrapped_again k (int_div s t) few small (word_of (int_div s t) small)
 
+-- the quotient as the code has it
 pub divided : (k r : ℕ) (s t q : ℤ) → k ≤ 64 → FitsSigned w64 s → FitsSigned w64 t → FitsSigned w64 q
     → q ≡ int_wrapping_div w64 (cast_signed w64 (cast_unsigned w64 s)) (cast_signed w64 (cast_unsigned w64 t)) → r ≡ wrapped k (cast_signed w64 (cast_unsigned w64 q)) → r ≡ wrapped k (int_div s t)
 divided k r s t q few f g h e d =
     d ∙ ap (wrapped k) (to_z-of_z w64 q h ∙ e ∙ ap (λ x. int_wrapping_div w64 x (cast_signed w64 (cast_unsigned w64 t))) (to_z-of_z w64 s f) ∙ ap (int_wrapping_div w64 s) (to_z-of_z w64 t g))
     ∙ wrapped_quotient k s t few f
 
+-- a choice is one of the two
 one_of : {A : Type 0} (t : Bool) (x y : A) → (cond t x y ≡ x) ⊎ (cond t x y ≡ y)
 one_of t x y = elim t as (λ v. (cond v x y ≡ x) ⊎ (cond v x y ≡ y)) [ true ↦ inl refl | false ↦ inr refl ]
 
+-- a difference below 0
 below_zero : (b p : ℕ) → b < p → pos b -ℤ pos p ≡ negsuc (p - 1 - b)
 below_zero b p h = omega (arith, ints)
 
@@ -148,6 +159,7 @@ read_not_zero k b some few fits more =
       | inr e ↦ subst P (sym (e ∙ below_zero b (2 ^ k) fits)) (omega arith)
     ]
 
+-- no bit goes, or all
 rotated_none : (k a : ℕ) → a < 2 ^ k → rotated k 0 a ≡ a
 rotated_none k a fits =
     let e : k - 0 ≡ k = omega arith in
@@ -162,6 +174,7 @@ pub rotated_ends : (k n a : ℕ) → a < 2 ^ k → (n ≡ 0) ⊎ ((n ≡ 0 → �
 rotated_ends k n a fits (inl e) = sym (ap (λ x. rotated k x a) e ∙ rotated_none k a fits)
 rotated_ends k n a fits (inr e) = sym (ap (λ x. rotated k x a) e.1 ∙ rotated_whole k a)
 
+-- the two parts joined by `|`
 pub rotated_parts : (k n a : ℕ) → 1 ≤ k → k ≤ 64 → n < k → a < 2 ^ k → bit_or (a % 2 ^ (k - n) * 2 ^ n % 2 ^ 64) (a / 2 ^ (k - n)) ≡ rotated k n a
 rotated_parts k n a some few within fits =
     let e : n + (k - n) ≡ k = omega arith in
@@ -178,6 +191,7 @@ rotated_fits k n a within fits =
     let g : 2 ^ n * 2 ^ (k - n) ≡ 2 ^ k = sym (pow-add 2 n (k - n)) ∙ ap (λ j. 2 ^ j) e in
     rw (← g) (mul-add-lt (a % 2 ^ (k - n)) (2 ^ n) (a / 2 ^ (k - n)) (2 ^ (k - n)) low high)
 
+-- not too low: then only the greatest number matters
 pub overflows_high : (k : ℕ) (z : ℤ) → k ≢ 1 → neg_ℤ (pos (2 ^ (k - 1))) ≤ℤ z → int_lt (pos (2 ^ (k - 1) - 1)) z ≡ overflows k z
 overflows_high k z two low =
     let e : int_lt z (neg_ℤ (pos (2 ^ (k - 1)))) ≡ false = grind (arith, ints) in

@@ -101,7 +101,7 @@ pub enum TernaryOp {
 pub struct DivideByZero;
 
 /// What an operation on one value gives: again a value of the mode.
-#[tactic(auto, using(crate::proofs::Values::some_bits))]
+#[tactic(auto, using(crate::proofs::Widths::some_bits))]
 pub fn unary(op: UnaryOp, mode: Mode, a: u64) -> u64
     requires mode { mode ≢ Mode.Void }
     requires fits { a < 2 ^ bits_of mode }
@@ -120,7 +120,7 @@ pub fn unary(op: UnaryOp, mode: Mode, a: u64) -> u64
 /// What an operation on two values gives: again a value of the mode. The count of a shift or a
 /// rotation may be any number. `DivideByZero` comes where one of the four that divide has the
 /// divisor 0.
-#[tactic(auto, using(crate::proofs::Values::some_bits))]
+#[tactic(auto, using(crate::proofs::Widths::some_bits))]
 pub fn binary(op: BinaryOp, mode: Mode, a: u64, b: u64) -> Result<u64, DivideByZero>
     requires mode { mode ≢ Mode.Void }
     requires left { a < 2 ^ bits_of mode }
@@ -166,7 +166,7 @@ fn divisor(b: u64) -> Result<u64, DivideByZero>
 }
 
 /// What an operation on two values and a carry, which is 0 or 1, gives: again a value of the mode.
-#[tactic(auto, using(crate::proofs::Values::some_bits))]
+#[tactic(auto, using(crate::proofs::Widths::some_bits))]
 pub fn ternary(op: TernaryOp, mode: Mode, a: u64, b: u64, c: u64) -> u64
     requires mode { mode ≢ Mode.Void }
     requires left { a < 2 ^ bits_of mode }
@@ -187,7 +187,7 @@ pub fn ternary(op: TernaryOp, mode: Mode, a: u64, b: u64, c: u64) -> u64
 }
 
 /// The value of one mode in another: extended by the sign of its own mode, or cut.
-#[tactic(auto, using(crate::proofs::Values::some_bits))]
+#[tactic(auto, using(crate::proofs::Widths::some_bits))]
 pub fn convert(from: Mode, to: Mode, a: u64) -> u64
     requires from { from ≢ Mode.Void }
     requires to { to ≢ Mode.Void }

@@ -1,9 +1,10 @@
--- Each operation on values of a mode gives a value of that mode.
+-- How many bits a value of a mode has.
 use Rattle.std.proofs.Common.{◌≢◌, ◌<◌, ◌≤◌, refl, arith}
 use Rattle.cg_base.specs.declared.mode.Mode.{Mode}
 use Rattle.cg_base.specs.declared.mode.Mode.TheVariants.{Bi, Qi, Hi, Si, Di, Uqi, Uhi, Usi, Udi, Void}
 use Rattle.cg_base.specs.Modes.{bits_of}
 
+-- from 1 to 64, where there is a value
 pub some_bits : (mode : Mode) → mode ≢ Void → (0 < bits_of mode) × (bits_of mode ≤ 64)
 some_bits Bi h = (omega arith, omega arith)
 some_bits Qi h = (omega arith, omega arith)
