@@ -1,0 +1,91 @@
+-- What stands where in a form.
+use Rattle.std.specs.Prelude.{◌≡◌, ℕ, ℤ, pos, Bool, List, [], ◌∷◌, Option, Some, None, is_some}
+use Rattle.cg_base.specs.declared.form.Form.{Form, out-Form}
+use Rattle.cg_base.specs.declared.form.Form.TheOpen.{Form-F, Number, Symbol, Str, Flag, Items}
+
+infixl 10 ◌>>=◌
+abbrev pub ◌>>=◌ : {A B : Type 0} → Option A → (A → Option B) → Option B
+None >>= f = None
+(Some x) >>= f = f x
+
+-- one level of a form
+abbrev pub Layer : Type 0
+Layer = Form-F Form
+
+-- the text of a symbol
+abbrev pub symbol_in : Layer → Option (List ℕ)
+symbol_in (Symbol s) = Some s
+symbol_in _ = None
+
+abbrev pub symbol_of : Form → Option (List ℕ)
+symbol_of f = symbol_in (out-Form f)
+
+-- the elements of a list
+abbrev pub items_in : Layer → Option (List Form)
+items_in (Items fs) = Some fs
+items_in _ = None
+
+abbrev pub items_of : Form → Option (List Form)
+items_of f = items_in (out-Form f)
+
+-- the value of a number
+abbrev pub number_in : Layer → Option ℤ
+number_in (Number n) = Some n
+number_in _ = None
+
+abbrev pub number_of : Form → Option ℤ
+number_of f = number_in (out-Form f)
+
+-- the value of a number from 0
+abbrev pub natural_in : Layer → Option ℕ
+natural_in (Number (pos n)) = Some n
+natural_in _ = None
+
+abbrev pub natural_of : Form → Option ℕ
+natural_of f = natural_in (out-Form f)
+
+-- the value of a flag
+abbrev pub flag_in : Layer → Option Bool
+flag_in (Flag b) = Some b
+flag_in _ = None
+
+abbrev pub flag_of : Form → Option Bool
+flag_of f = flag_in (out-Form f)
+
+-- the text of a symbol or a string
+abbrev pub word_in : Layer → Option (List ℕ)
+word_in (Symbol s) = Some s
+word_in (Str s) = Some s
+word_in _ = None
+
+abbrev pub word_of : Form → Option (List ℕ)
+word_of f = word_in (out-Form f)
+
+abbrev pub is_symbol : Form → Bool
+is_symbol f = is_some (symbol_of f)
+
+-- the first element of a list, and the one element of a list
+abbrev pub first : {A : Type 0} → List A → Option A
+first [] = None
+first (x ∷ xs) = Some x
+
+abbrev pub only : {A : Type 0} → List A → Option A
+only (x ∷ []) = Some x
+only _ = None
+
+-- the symbol that heads these elements of a list, and the elements behind it
+abbrev pub behind : List Form → Option (List ℕ) → Option (List ℕ × List Form)
+behind fs None = None
+behind fs (Some s) = Some (s, fs)
+
+unfoldable pub headed : List Form → Option (List ℕ × List Form)
+headed [] = None
+headed (f ∷ fs) = behind fs (symbol_of f)
+
+-- a list that a symbol heads: that symbol, and the elements behind it
+unfoldable pub clause_of : Form → Option (List ℕ × List Form)
+clause_of f = items_of f >>= headed
+
+-- the text of the one element of a list, a symbol
+unfoldable pub only_symbol : List Form → Option (List ℕ)
+only_symbol fs = only fs >>= symbol_of
