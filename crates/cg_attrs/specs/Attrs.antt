@@ -1,9 +1,8 @@
 -- Which forms are attributes, and what they say.
 use Rattle.std.specs.Prelude.{◌≡◌, ℕ, ℤ, Bool, true, false, ◌&&◌, ◌||◌, ◌==◌, nat_eq, if◌then◌else◌, List, [], ◌∷◌, ◌++◌, length, map, Option, Some, None, is_some, codes}
 use Rattle.std.specs.Borrow.{Bor}
-use Rattle.std.specs.List.{list_any, list_all, filter_map}
+use Rattle.std.specs.List.{list_all, filter_map}
 use Rattle.std.specs.Option.{option_map}
-use Rattle.std.specs.Cmp.Lexicographic.{pointwise}
 use Rattle.cg_base.specs.declared.form.Form.{Form, out-Form}
 use Rattle.cg_base.specs.declared.form.Form.TheOpen.{Form-F, Number, Symbol, Str, Flag, Items}
 use Rattle.cg_attrs.specs.declared.attr.Attr.{Attr}
@@ -11,11 +10,7 @@ use Rattle.cg_attrs.specs.declared.attr.AttrValue.{AttrValue}
 use Rattle.cg_attrs.specs.declared.attr.AttrValue.TheVariants as value
 use Rattle.cg_attrs.specs.declared.attr.Said.{Said}
 use Rattle.cg_attrs.specs.declared.attr.Said.TheVariants as said
-use Rattle.cg_attrs.specs.Parts.{◌>>=◌, Layer, symbol_of, items_of, is_symbol, headed, only}
-
--- the text is one of these
-abbrev pub is_among : List (List ℕ) → List ℕ → Bool
-is_among texts text = list_any (λ t. pointwise nat_eq t text) texts
+use Rattle.cg_attrs.specs.Parts.{◌>>=◌, Layer, symbol_of, items_of, is_symbol, headed, only, is_among}
 
 -- the attributes whose value is a set of names
 abbrev pub is_bitset : List ℕ → Bool

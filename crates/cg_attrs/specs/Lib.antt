@@ -1,3 +1,5 @@
 pub mod Parts
 pub mod Faults
 pub mod Attrs
+pub mod Clauses
+pub mod Contents

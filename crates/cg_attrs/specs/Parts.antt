@@ -1,5 +1,7 @@
 -- What stands where in a form.
-use Rattle.std.specs.Prelude.{◌≡◌, ℕ, ℤ, pos, Bool, List, [], ◌∷◌, Option, Some, None, is_some}
+use Rattle.std.specs.Prelude.{◌≡◌, ℕ, ℤ, pos, Bool, true, false, nat_eq, List, [], ◌∷◌, Option, Some, None, is_some}
+use Rattle.std.specs.List.{list_any}
+use Rattle.std.specs.Cmp.Lexicographic.{pointwise}
 use Rattle.cg_base.specs.declared.form.Form.{Form, out-Form}
 use Rattle.cg_base.specs.declared.form.Form.TheOpen.{Form-F, Number, Symbol, Str, Flag, Items}
 
@@ -86,6 +88,27 @@ headed (f ∷ fs) = behind fs (symbol_of f)
 unfoldable pub clause_of : Form → Option (List ℕ × List Form)
 clause_of f = items_of f >>= headed
 
--- the text of the one element of a list, a symbol
+-- what the one element of a list is
 unfoldable pub only_symbol : List Form → Option (List ℕ)
 only_symbol fs = only fs >>= symbol_of
+
+unfoldable pub only_word : List Form → Option (List ℕ)
+only_word fs = only fs >>= word_of
+
+unfoldable pub only_flag : List Form → Option Bool
+only_flag fs = only fs >>= flag_of
+
+unfoldable pub only_number : List Form → Option ℤ
+only_number fs = only fs >>= number_of
+
+unfoldable pub only_natural : List Form → Option ℕ
+only_natural fs = only fs >>= natural_of
+
+-- the text is one of these
+abbrev pub is_among : List (List ℕ) → List ℕ → Bool
+is_among texts text = list_any (λ t. pointwise nat_eq t text) texts
+
+-- there is a value, and it passes the test
+abbrev pub passes : {A : Type 0} → (A → Bool) → Option A → Bool
+passes test None = false
+passes test (Some x) = test x

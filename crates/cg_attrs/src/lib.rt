@@ -2,7 +2,13 @@
 #![tactic(auto)]
 
 mod attr;
+mod clauses;
+mod content;
 mod fault;
 mod parts;
 
 pub use attr::{Attr, AttrValue, read_attrs};
+pub use clauses::{
+    Role, Row, content_at, first_absent, first_misplaced, row_named, standing, stands_as,
+};
+pub use content::Content;

@@ -3,7 +3,7 @@
 ghost use Rattle.std.specs.Prelude.{◌≡◌};
 ghost use Rattle.std.specs.Option.{option_copied, option_map};
 ghost use Rattle.std.specs.List.{list_all};
-ghost use Rattle.cg_attrs.specs.Parts.{symbol_of, items_of, number_of, natural_of, flag_of, word_of, is_symbol, headed, clause_of, only, only_symbol};
+ghost use Rattle.cg_attrs.specs.Parts.{symbol_of, items_of, number_of, natural_of, flag_of, word_of, is_symbol, headed, clause_of, only, only_symbol, only_word, only_flag, only_number, only_natural};
 
 use cg_base::{Form, Text};
 
@@ -114,4 +114,36 @@ pub(crate) fn only_symbol(items: &[Form]) -> Option<&Text>
     ensures { option_copied result ≡ only_symbol items.now }
 {
     symbol(only(items)?)
+}
+
+/// The text of the one element of a list, a symbol or a string.
+#[tactic(auto, unfolding(crate::specs::Parts::only_word))]
+pub(crate) fn only_word(items: &[Form]) -> Option<&Text>
+    ensures { option_copied result ≡ only_word items.now }
+{
+    word(only(items)?)
+}
+
+/// The value of the one element of a list, a flag.
+#[tactic(auto, unfolding(crate::specs::Parts::only_flag))]
+pub(crate) fn only_flag(items: &[Form]) -> Option<bool>
+    ensures { result ≡ only_flag items.now }
+{
+    flag(only(items)?)
+}
+
+/// The value of the one element of a list, a number.
+#[tactic(auto, unfolding(crate::specs::Parts::only_number))]
+pub(crate) fn only_number(items: &[Form]) -> Option<i64>
+    ensures { result ≡ only_number items.now }
+{
+    number(only(items)?)
+}
+
+/// The value of the one element of a list, a number from 0.
+#[tactic(auto, unfolding(crate::specs::Parts::only_natural))]
+pub(crate) fn only_natural(items: &[Form]) -> Option<u64>
+    ensures { result ≡ only_natural items.now }
+{
+    natural(only(items)?)
 }
