@@ -3,3 +3,4 @@ pub mod Faults
 pub mod Attrs
 pub mod Clauses
 pub mod Contents
+pub mod Tables

@@ -6,6 +6,7 @@ mod clauses;
 mod content;
 mod fault;
 mod parts;
+mod table;
 
 pub use attr::{Attr, AttrValue, read_attrs};
 pub use clauses::{
