@@ -4,3 +4,4 @@ pub mod Attrs
 pub mod Clauses
 pub mod Contents
 pub mod Tables
+pub mod Judging

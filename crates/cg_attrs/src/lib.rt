@@ -5,6 +5,7 @@ mod attr;
 mod clauses;
 mod content;
 mod fault;
+mod judge;
 mod parts;
 mod table;
 
