@@ -1,17 +1,20 @@
 -- What is at fault in a form that is to frame a machine: for each refusal, the texts at fault, in the order of their places in
 -- the form from left to right.
-use Rattle.std.specs.Prelude.{◌≡◌, ℕ, Bool, true, false, not, ◌&&◌, ◌||◌, nat_eq, if◌then◌else◌, List, [], ◌∷◌, ◌++◌, map, Option, Some, None, is_some, codes}
+use Rattle.std.specs.Prelude.{◌≡◌, ℕ, Bool, true, false, not, ◌&&◌, ◌||◌, nat_eq, if◌then◌else◌, List, [], ◌∷◌, ◌++◌, map, Option, Some, None, is_some, Result, Ok, Err, codes}
+use Rattle.std.specs.Borrow.{Bor}
 use Rattle.std.specs.List.{filter_map, cons_option}
 use Rattle.std.specs.Cmp.Lexicographic.{pointwise}
 use Rattle.cg_base.specs.declared.form.Form.{Form}
 use Rattle.cg_attrs.specs.declared.clauses.Role.{Role}
 use Rattle.cg_attrs.specs.declared.clauses.Role.TheVariants.{Wanted, Optional, Repeated, Plain, LeftOut}
 use Rattle.cg_attrs.specs.declared.content.Content.{Content}
+use Rattle.cg_attrs.specs.declared.fault.Fault as declared
 use Rattle.cg_attrs.specs.declared.table.Kind.{Kind}
 use Rattle.cg_attrs.specs.declared.table.Kind.TheVariants as kind
 use Rattle.cg_attrs.specs.Parts.{◌>>=◌, clause_of}
 use Rattle.cg_attrs.specs.Clauses.{Row, standing, misplaced, absent}
 use Rattle.cg_attrs.specs.Contents.{fits, left_out_content, fits_argument}
+use Rattle.cg_attrs.specs.Faults.{seen_fault, least}
 use Rattle.cg_attrs.specs.Tables.{kind_named, rows_of}
 
 -- a list that a symbol heads: that symbol, and the elements behind it
@@ -132,3 +135,17 @@ argument_faults rows arguments = (302, extra rows arguments) ∷ (303, missing r
 
 abbrev pub faults_of : Kind → List Form → List (ℕ × List (List ℕ))
 faults_of k elements = (302, misplaced_of k elements) ∷ (303, absent_of k elements) ∷ (304, wrong_of k elements) ∷ (307, left_out_of k elements) ∷ []
+
+-- the form that frames a machine, and the elements behind its head
+abbrev pub kind_in : List Form → Option Kind → Option (Kind × List Form)
+kind_in elements None = None
+kind_in elements (Some k) = Some (k, elements)
+
+abbrev pub kind_as : Option Headed → Option (Kind × List Form)
+kind_as None = None
+kind_as (Some x) = kind_in x.1 (kind_named x.0)
+
+-- A form without fault is this one, with these elements; otherwise this is its least fault.
+abbrev pub Judged : Option Headed → Result (Kind × Bor (List Form)) declared.Fault → Type 0
+Judged form (Ok x) = (least (faults_as form) ≡ None) × (kind_as form ≡ Some (x.0, x.1.now))
+Judged form (Err fault) = least (faults_as form) ≡ Some (seen_fault fault)

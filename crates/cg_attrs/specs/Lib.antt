@@ -5,3 +5,4 @@ pub mod Clauses
 pub mod Contents
 pub mod Tables
 pub mod Judging
+pub mod Lookups

@@ -116,7 +116,7 @@ fn first_clause<'a>(forms: &'a [Form], name: &[u8]) -> Option<&'a Form>
 
 /// What stands behind the name of a clause.
 #[tactic(auto, unfolding(crate::specs::Clauses::content_of))]
-fn content(form: &Form) -> Option<&[Form]>
+pub(crate) fn content(form: &Form) -> Option<&[Form]>
     ensures { option_copied result ≡ content_of form.now }
 {
     let (_, content) = clause(form)?;

@@ -5,7 +5,7 @@ ghost use Rattle.std.specs.Option.{option_copied, option_map};
 ghost use Rattle.cg_attrs.specs.Parts.{first, clause_of};
 ghost use Rattle.cg_attrs.specs.Clauses.{seen};
 ghost use Rattle.cg_attrs.specs.Faults.{seen_fault, least};
-ghost use Rattle.cg_attrs.specs.Judging.{wrong_at, wrong, left_out_at, left_out, heading, extra, missing, wrong_argument, wrong_arguments, clause_faults, argument_faults, faults_of, faults_as, frame_faults};
+ghost use Rattle.cg_attrs.specs.Judging.{wrong_at, wrong, left_out_at, left_out, heading, extra, missing, wrong_arguments, clause_faults, argument_faults, faults_of, Judged};
 
 use crate::clauses::{Role, Row, first_absent, first_misplaced, standing};
 use crate::content::{Content, fits, fits_argument, left_out_content};
@@ -162,32 +162,36 @@ fn kind_fault(kind: Kind, elements: &[Form]) -> Option<Fault<'_>>
     }
 }
 
-/// The least fault of a list that this symbol heads.
-fn headed_fault<'a>(head: &'a [u8], elements: &'a [Form]) -> Option<Fault<'a>>
-    ensures { option_map seen_fault result ≡ least (faults_as (Some (head.now, elements.now))) }
+/// The form that this symbol heads, and the elements behind it, where it has no fault.
+fn judged_headed<'a>(head: &'a [u8], elements: &'a [Form]) -> Result<(Kind, &'a [Form]), Fault<'a>>
+    ensures { Judged (Some (head.now, elements.now)) result }
 {
     if let Some(kind) = kind_named(head) {
-        return kind_fault(kind, elements);
+        return match kind_fault(kind, elements) {
+            Some(fault) => Err(fault),
+            None => Ok((kind, elements)),
+        };
     }
     match head {
-        b"if" => Some(Fault {
+        b"if" => Err(Fault {
             number: 307,
             text: b"if",
         }),
-        _ => Some(Fault {
+        _ => Err(Fault {
             number: 301,
             text: head,
         }),
     }
 }
 
-/// The least fault of a form that is to frame a machine.
-pub(crate) fn frame_fault(form: &Form) -> Option<Fault<'_>>
-    ensures { option_map seen_fault result ≡ least (frame_faults form.now) }
+/// Which form that frames a machine this is, and the elements behind its head, where it has no
+/// fault. Otherwise its least fault.
+pub(crate) fn judged(form: &Form) -> Result<(Kind, &[Form]), Fault<'_>>
+    ensures { Judged (clause_of form.now) result }
 {
     match clause(form) {
-        Some((head, elements)) => headed_fault(head.as_slice(), elements),
-        None => Some(Fault {
+        Some((head, elements)) => judged_headed(head.as_slice(), elements),
+        None => Err(Fault {
             number: 301,
             text: b"form",
         }),

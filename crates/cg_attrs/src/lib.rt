@@ -5,7 +5,9 @@ mod attr;
 mod clauses;
 mod content;
 mod fault;
+mod frame;
 mod judge;
+mod lookup;
 mod parts;
 mod table;
 
@@ -14,3 +16,7 @@ pub use clauses::{
     Role, Row, content_at, first_absent, first_misplaced, row_named, standing, stands_as,
 };
 pub use content::Content;
+pub use frame::{
+    ArchForm, AttrForm, CpuForm, EnumForm, Frame, InsnEnumForm, IsaForm, KeywordForm, MachForm,
+    ModelForm,
+};
