@@ -6,3 +6,4 @@ pub mod Contents
 pub mod Tables
 pub mod Judging
 pub mod Lookups
+pub mod Frames

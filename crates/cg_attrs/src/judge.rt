@@ -93,7 +93,7 @@ fn heading(form: &Form) -> &[u8]
 }
 
 /// The item at place `i`, counted from 0. None exactly past the end.
-fn nth<T>(items: &[T], i: usize) -> Option<&T>
+pub(crate) fn nth<T>(items: &[T], i: usize) -> Option<&T>
     ensures { option_copied result ≡ slice_get items.now i }
 {
     items.get(i)

@@ -9,6 +9,7 @@ mod frame;
 mod judge;
 mod lookup;
 mod parts;
+mod read;
 mod table;
 
 pub use attr::{Attr, AttrValue, read_attrs};
@@ -20,3 +21,4 @@ pub use frame::{
     ArchForm, AttrForm, CpuForm, EnumForm, Frame, InsnEnumForm, IsaForm, KeywordForm, MachForm,
     ModelForm,
 };
+pub use read::read_frame;
