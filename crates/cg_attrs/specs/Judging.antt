@@ -113,14 +113,24 @@ abbrev pub left_out_form : Option Headed → List (List ℕ)
 left_out_form None = []
 left_out_form (Some x) = if is_if x.0 then codes "if" ∷ [] else []
 
--- The texts at fault of a form, under each number.
+-- The texts at fault of a form.
+abbrev pub texts_301 : Option Headed → List (List ℕ)
+texts_301 f = unnamed f
+
+abbrev pub texts_302 : Option Headed → List (List ℕ)
+texts_302 f = of_frame misplaced_of f
+
+abbrev pub texts_303 : Option Headed → List (List ℕ)
+texts_303 f = of_frame absent_of f
+
+abbrev pub texts_304 : Option Headed → List (List ℕ)
+texts_304 f = of_frame wrong_of f
+
+abbrev pub texts_307 : Option Headed → List (List ℕ)
+texts_307 f = left_out_form f ++ of_frame left_out_of f
+
 abbrev pub faults_as : Option Headed → List (ℕ × List (List ℕ))
-faults_as x =
-    (301, unnamed x) ∷
-    (302, of_frame misplaced_of x) ∷
-    (303, of_frame absent_of x) ∷
-    (304, of_frame wrong_of x) ∷
-    (307, left_out_form x ++ of_frame left_out_of x) ∷ []
+faults_as f = (301, texts_301 f) ∷ (302, texts_302 f) ∷ (303, texts_303 f) ∷ (304, texts_304 f) ∷ (307, texts_307 f) ∷ []
 
 abbrev pub frame_faults : Form → List (ℕ × List (List ℕ))
 frame_faults f = faults_as (clause_of f)

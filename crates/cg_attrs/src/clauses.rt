@@ -11,7 +11,7 @@ use cg_base::Form;
 
 /// What a clause is to its form (docs/LANGUAGE.md, "Forms and clauses").
 #[derive(Clone, Copy, Debug, PartialEq, Eq)]
-pub enum Role {
+pub(crate) enum Role {
     /// It has to stand, once.
     Wanted,
     /// It may stand, once.
@@ -27,17 +27,17 @@ pub enum Role {
 /// A clause that a form may have. It counts as absent where nothing stands behind its name, or
 /// `#f` where a rule is meant.
 #[derive(Clone, Copy, Debug)]
-pub struct Row<C> {
+pub(crate) struct Row<C> {
     /// The clause's name.
-    pub name: &'static [u8],
+    pub(crate) name: &'static [u8],
     /// What it is to its form.
-    pub role: Role,
+    pub(crate) role: Role,
     /// What has to stand behind its name.
-    pub content: C,
+    pub(crate) content: C,
 }
 
 /// The row of the clause with this name. None exactly where no row has it.
-pub fn row_named<'a, C>(rows: &'a [Row<C>], name: &[u8]) -> Option<&'a Row<C>>
+pub(crate) fn row_named<'a, C>(rows: &'a [Row<C>], name: &[u8]) -> Option<&'a Row<C>>
     ensures { option_map (λ r. seen r.now) result ≡ row_named (map seen rows.now) name.now }
 {
     for row in rows {
@@ -77,7 +77,7 @@ fn counts_absent(name: &[u8], content: &[Form]) -> bool
 }
 
 /// Whether the form is a clause of this name that doesn't count as absent.
-pub fn stands_as(form: &Form, name: &[u8]) -> bool
+pub(crate) fn stands_as(form: &Form, name: &[u8]) -> bool
     ensures { result ≡ stands_as name.now form.now }
 {
     match clause(form) {
@@ -97,7 +97,10 @@ fn stands_among(forms: &[Form], name: &[u8]) -> bool
 /// The row of a clause that doesn't count as absent, and what stands behind its name. None
 /// exactly where the form is no such clause or no row has its name.
 #[tactic(auto, unfolding(crate::specs::Clauses::standing))]
-pub fn standing<'a, C>(rows: &'a [Row<C>], form: &'a Form) -> Option<(&'a Row<C>, &'a [Form])>
+pub(crate) fn standing<'a, C>(
+    rows: &'a [Row<C>],
+    form: &'a Form,
+) -> Option<(&'a Row<C>, &'a [Form])>
     ensures { option_map (λ x. (seen x.0.now, x.1.now)) result ≡ standing (map seen rows.now) form.now }
 {
     let (name, content) = clause(form)?;
@@ -126,7 +129,7 @@ pub(crate) fn content(form: &Form) -> Option<&[Form]>
 /// What stands behind the name of the first clause of this name that doesn't count as absent.
 /// None exactly where there is no such clause.
 #[tactic(auto, unfolding(crate::specs::Clauses::content_at))]
-pub fn content_at<'a>(forms: &'a [Form], name: &[u8]) -> Option<&'a [Form]>
+pub(crate) fn content_at<'a>(forms: &'a [Form], name: &[u8]) -> Option<&'a [Form]>
     ensures { option_copied result ≡ content_at name.now forms.now }
 {
     content(first_clause(forms, name)?)
@@ -161,7 +164,7 @@ fn misplaced_at<'a, C>(rows: &[Row<C>], before: &[Form], form: &'a Form) -> Opti
 
 /// The first text of E302: the name of the first clause that has no row or stands twice, or
 /// `clause` where the first such element is no list that a symbol heads (docs/REFUSALS.md).
-pub fn first_misplaced<'a, C>(rows: &[Row<C>], elements: &'a [Form]) -> Option<&'a [u8]>
+pub(crate) fn first_misplaced<'a, C>(rows: &[Row<C>], elements: &'a [Form]) -> Option<&'a [u8]>
     ensures { option_copied result ≡ first (misplaced (map seen rows.now) [] elements.now) }
 {
     for (i, element) in elements.iter().enumerate() {
@@ -174,7 +177,7 @@ pub fn first_misplaced<'a, C>(rows: &[Row<C>], elements: &'a [Form]) -> Option<&
 
 /// The first text of E303: the name of the first row whose clause is wanted and absent
 /// (docs/REFUSALS.md).
-pub fn first_absent<C>(rows: &[Row<C>], elements: &[Form]) -> Option<&'static [u8]>
+pub(crate) fn first_absent<C>(rows: &[Row<C>], elements: &[Form]) -> Option<&'static [u8]>
     ensures { option_copied result ≡ first (absent (map seen rows.now) elements.now) }
 {
     for row in rows {

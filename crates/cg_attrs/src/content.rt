@@ -14,7 +14,7 @@ use cg_base::Form;
 
 /// What has to stand behind a clause's name (docs/LANGUAGE.md, "Forms and clauses").
 #[derive(Clone, Copy, Debug, PartialEq, Eq)]
-pub enum Content {
+pub(crate) enum Content {
     /// One symbol.
     Symbol,
     /// Symbols.

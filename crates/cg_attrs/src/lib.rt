@@ -13,10 +13,6 @@ mod read;
 mod table;
 
 pub use attr::{Attr, AttrValue, read_attrs};
-pub use clauses::{
-    Role, Row, content_at, first_absent, first_misplaced, row_named, standing, stands_as,
-};
-pub use content::Content;
 pub use frame::{
     ArchForm, AttrForm, CpuForm, EnumForm, Frame, InsnEnumForm, IsaForm, KeywordForm, MachForm,
     ModelForm,
