@@ -1,0 +1,189 @@
+//! The clauses of a form, judged by a table that has a row for each.
+
+ghost use Rattle.std.specs.Prelude.{◌≡◌, [], map, not};
+ghost use Rattle.std.specs.Option.{option_copied, option_map};
+ghost use Rattle.std.specs.List.{find, list_any};
+ghost use Rattle.cg_attrs.specs.Parts.{first, only_flag, passes};
+ghost use Rattle.cg_attrs.specs.Clauses.{seen, row_named, is_rule, counts_absent, stands_as, standing, content_of, content_at, may_stand, misplaced_at, misplaced, absent};
+
+use crate::parts::{clause, only_flag};
+use cg_base::Form;
+
+/// What a clause is to its form (docs/LANGUAGE.md, "Forms and clauses").
+#[derive(Clone, Copy, Debug, PartialEq, Eq)]
+pub(crate) enum Role {
+    /// It has to stand, once.
+    Wanted,
+    /// It may stand, once.
+    Optional,
+    /// It may stand, and again.
+    Repeated,
+    /// It may stand, once, and has no effect.
+    Plain,
+    /// It is a clause that is left out of this language.
+    LeftOut,
+}
+
+/// A clause that a form may have. It counts as absent where nothing stands behind its name, or
+/// `#f` where a rule is meant.
+#[derive(Clone, Copy, Debug)]
+pub(crate) struct Row<C> {
+    /// The clause's name.
+    pub(crate) name: &'static [u8],
+    /// What it is to its form.
+    pub(crate) role: Role,
+    /// What has to stand behind its name.
+    pub(crate) content: C,
+}
+
+/// The row of the clause with this name. None exactly where no row has it.
+pub(crate) fn row_named<'a, C>(rows: &'a [Row<C>], name: &[u8]) -> Option<&'a Row<C>>
+    ensures { option_map (λ r. seen r.now) result ≡ row_named (map seen rows.now) name.now }
+{
+    for row in rows {
+        if row.name == name {
+            return Some(row);
+        }
+    }
+    None
+}
+
+/// Whether the clause of this name holds a rule.
+fn is_rule(name: &[u8]) -> bool
+    ensures { result ≡ is_rule name.now }
+{
+    matches!(
+        name,
+        b"encode" | b"decode" | b"insert" | b"extract" | b"get" | b"set"
+    )
+}
+
+/// Whether the content is `#f`, which is no rule.
+fn is_no_rule(content: &[Form]) -> bool
+    ensures { result ≡ passes not (only_flag content.now) }
+{
+    match only_flag(content) {
+        Some(flag) => !flag,
+        None => false,
+    }
+}
+
+/// Whether a clause counts as absent: nothing stands behind its name, or `#f` where a rule is
+/// meant.
+fn counts_absent(name: &[u8], content: &[Form]) -> bool
+    ensures { result ≡ counts_absent name.now content.now }
+{
+    content.is_empty() || (is_rule(name) && is_no_rule(content))
+}
+
+/// Whether the form is a clause of this name that doesn't count as absent.
+pub(crate) fn stands_as(form: &Form, name: &[u8]) -> bool
+    ensures { result ≡ stands_as name.now form.now }
+{
+    match clause(form) {
+        Some((head, content)) => head.as_slice() == name
+            && !counts_absent(head.as_slice(), content),
+        None => false,
+    }
+}
+
+/// Whether one of the forms is a clause of this name that doesn't count as absent.
+fn stands_among(forms: &[Form], name: &[u8]) -> bool
+    ensures { result ≡ list_any (stands_as name.now) forms.now }
+{
+    forms.iter().any(|form| stands_as(form, name))
+}
+
+/// The row of a clause that doesn't count as absent, and what stands behind its name. None
+/// exactly where the form is no such clause or no row has its name.
+#[tactic(auto, unfolding(crate::specs::Clauses::standing))]
+pub(crate) fn standing<'a, C>(
+    rows: &'a [Row<C>],
+    form: &'a Form,
+) -> Option<(&'a Row<C>, &'a [Form])>
+    ensures { option_map (λ x. (seen x.0.now, x.1.now)) result ≡ standing (map seen rows.now) form.now }
+{
+    let (name, content) = clause(form)?;
+    if counts_absent(name.as_slice(), content) {
+        return None;
+    }
+    Some((row_named(rows, name.as_slice())?, content))
+}
+
+/// The first clause of this name that doesn't count as absent.
+fn first_clause<'a>(forms: &'a [Form], name: &[u8]) -> Option<&'a Form>
+    ensures { option_copied result ≡ find (stands_as name.now) forms.now }
+{
+    forms.iter().find(|form| stands_as(form, name))
+}
+
+/// What stands behind the name of a clause.
+#[tactic(auto, unfolding(crate::specs::Clauses::content_of))]
+pub(crate) fn content(form: &Form) -> Option<&[Form]>
+    ensures { option_copied result ≡ content_of form.now }
+{
+    let (_, content) = clause(form)?;
+    Some(content)
+}
+
+/// What stands behind the name of the first clause of this name that doesn't count as absent.
+/// None exactly where there is no such clause.
+#[tactic(auto, unfolding(crate::specs::Clauses::content_at))]
+pub(crate) fn content_at<'a>(forms: &'a [Form], name: &[u8]) -> Option<&'a [Form]>
+    ensures { option_copied result ≡ content_at name.now forms.now }
+{
+    content(first_clause(forms, name)?)
+}
+
+/// Whether a clause may stand behind those before it.
+fn may_stand<C>(rows: &[Row<C>], before: &[Form], name: &[u8]) -> bool
+    ensures { result ≡ may_stand (map seen rows.now) before.now name.now }
+{
+    match row_named(rows, name) {
+        Some(row) => row.role == Role::Repeated || !stands_among(before, name),
+        None => false,
+    }
+}
+
+/// How an element is misplaced behind those before it.
+fn misplaced_at<'a, C>(rows: &[Row<C>], before: &[Form], form: &'a Form) -> Option<&'a [u8]>
+    ensures { option_copied result ≡ misplaced_at (map seen rows.now) before.now form.now }
+{
+    match clause(form) {
+        Some((name, content)) => {
+            let name = name.as_slice();
+            if counts_absent(name, content) || may_stand(rows, before, name) {
+                None
+            } else {
+                Some(name)
+            }
+        }
+        None => Some(b"clause"),
+    }
+}
+
+/// The first text of E302: the name of the first clause that has no row or stands twice, or
+/// `clause` where the first such element is no list that a symbol heads (docs/REFUSALS.md).
+pub(crate) fn first_misplaced<'a, C>(rows: &[Row<C>], elements: &'a [Form]) -> Option<&'a [u8]>
+    ensures { option_copied result ≡ first (misplaced (map seen rows.now) [] elements.now) }
+{
+    for (i, element) in elements.iter().enumerate() {
+        if let Some(text) = misplaced_at(rows, &elements[..i], element) {
+            return Some(text);
+        }
+    }
+    None
+}
+
+/// The first text of E303: the name of the first row whose clause is wanted and absent
+/// (docs/REFUSALS.md).
+pub(crate) fn first_absent<C>(rows: &[Row<C>], elements: &[Form]) -> Option<&'static [u8]>
+    ensures { option_copied result ≡ first (absent (map seen rows.now) elements.now) }
+{
+    for row in rows {
+        if row.role == Role::Wanted && !stands_among(elements, row.name) {
+            return Some(row.name);
+        }
+    }
+    None
+}

@@ -1,0 +1,20 @@
+//! Reading the attributes of a form, and the forms that frame a machine.
+#![tactic(auto)]
+
+mod attr;
+mod clauses;
+mod content;
+mod fault;
+mod frame;
+mod judge;
+mod lookup;
+mod parts;
+mod read;
+mod table;
+
+pub use attr::{Attr, AttrValue, read_attrs};
+pub use frame::{
+    ArchForm, AttrForm, CpuForm, EnumForm, Frame, InsnEnumForm, IsaForm, KeywordForm, MachForm,
+    ModelForm,
+};
+pub use read::read_frame;
