@@ -11,6 +11,8 @@ mod lookup;
 mod parts;
 mod read;
 mod table;
+#[cfg(test)]
+mod tests;
 
 pub use attr::{Attr, AttrValue, read_attrs};
 pub use frame::{
