@@ -55,7 +55,7 @@ abbrev pub first_named : List BuiltIn → List ℕ → Option BuiltIn
 first_named all name = find (λ b. same_text (name_of b) name) all
 
 -- the one that has this name
-abbrev pub built_in : List ℕ → Option BuiltIn
+unfoldable pub built_in : List ℕ → Option BuiltIn
 built_in name = first_named all_built_ins name
 
 -- These take what they expand themselves, and can't be mapped or applied.
@@ -217,9 +217,12 @@ abbrev pub numbers : ℕ → ℤ → ℤ → List Form
 numbers zero start step = []
 numbers (suc n) start step = Number start ∷ numbers n (start +ℤ step) step
 
+-- the last of so many numbers has 64 bits, where there is one
+abbrev pub iota_fits : ℕ → ℤ → ℤ → Bool
+iota_fits n start step = n == 0 || fits_64 (start +ℤ (pos (n - 1) *ℤ step))
+
 abbrev pub iota_from : ℕ → ℤ → ℤ → Answer Form
-iota_from n start step =
-    if n == 0 || fits_64 (start +ℤ (pos (n - 1) *ℤ step)) then Ok (Items (numbers n start step)) else Err (misfit own.Iota)
+iota_from n start step = if iota_fits n start step then Ok (Items (numbers n start step)) else Err (misfit own.Iota)
 
 abbrev pub iota_of : List Form → Answer Form
 iota_of (n ∷ []) = onward (natural_for own.Iota n) (λ k. iota_from k (pos 0) (pos 1))
@@ -296,7 +299,7 @@ unsplice_of true (f ∷ []) = choose (form_elements f) (λ fs. Ok f) (Err (misfi
 unsplice_of false (f ∷ []) = Err (misfit own.Unsplice)
 unsplice_of _ _ = Err (miscounted own.Unsplice)
 
--- what a built-in gives whose arguments are all expanded before
+-- What a built-in gives whose arguments are all expanded before. That of `.iota` stands above; the others give their list.
 abbrev pub ordinary : BuiltIn → Bool → List Form → Answer Form
 ordinary own.Sym spliced args = sym_of args
 ordinary own.Str spliced args = str_of args
@@ -305,7 +308,6 @@ ordinary own.Upcase spliced args = letters_of own.Upcase upper args
 ordinary own.Downcase spliced args = letters_of own.Downcase lower args
 ordinary own.Substring spliced args = substring_of args
 ordinary own.Unsplice spliced args = unsplice_of spliced args
-ordinary own.Iota spliced args = iota_of args
 ordinary own.Ref spliced args = ref_of args
 ordinary own.Length spliced args = length_of args
 ordinary own.Add spliced args = add_of args

@@ -13,7 +13,7 @@ use Rattle.cg_pmacro.specs.declared.built_in.BuiltIn.{BuiltIn}
 use Rattle.cg_pmacro.specs.declared.built_in.BuiltIn.TheVariants as own
 use Rattle.cg_pmacro.specs.declared.built_in.Manner.{Manner}
 use Rattle.cg_pmacro.specs.declared.built_in.Manner.TheVariants as way
-use Rattle.cg_pmacro.specs.Outcome.{Answer, Out, and_then, fault, lift, choose}
+use Rattle.cg_pmacro.specs.Outcome.{Answer, Out, and_then, fault, lift, choose, then_out}
 use Rattle.cg_pmacro.specs.Sizes.{nodes, lists}
 use Rattle.cg_pmacro.specs.Shapes.{same_text, same_form, written, form_symbol, called, head_name, is_named, own_symbol, elements, pmacro_form, pmacro_head, pair_of, macro_named, is_among, begins_with_dot}
 use Rattle.cg_pmacro.specs.BuiltIns.{name_of, built_in, is_lazy, miscounted, misfit, form_elements, is_false, iota_of, ordinary}
@@ -78,14 +78,14 @@ pmacro_of formals b =
     choose (elements formals) (λ bs. choose (names_of [] bs) (λ names. Ok (record { name = codes ".pmacro"; formals = Some names; body = b })) (Err (misfit own.Pmacro))) (Err (misfit own.Pmacro))
 
 -- the macro of a `.pmacro` form
-abbrev pub pmacro : List Body → Answer Macro
+unfoldable pub pmacro : List Body → Answer Macro
 pmacro (head ∷ formals ∷ b ∷ []) = pmacro_of formals b
 pmacro _ = Err (miscounted own.Pmacro)
 
--- a list that is headed by a `.pmacro` form
-abbrev pub call_pmacro : Expander → List Body → List Body → ℕ → Out Form
+-- a list that is headed by a `.pmacro` form, with its cost
+unfoldable pub call_pmacro : Expander → List Body → List Body → ℕ → Out Form
 call_pmacro within form args left =
-    and_then (lift (pmacro form) left) (λ m left. and_then (each within (codes ".pmacro") [] args left) (call_macro within m))
+    charged (codes ".pmacro") (then_out (pmacro form) (λ m. and_then (each within (codes ".pmacro") [] args left) (call_macro within m)))
 
 -- What `.if`, `.cond` and `.case` take, where they take something.
 abbrev pub Taken : Type 0
@@ -203,15 +203,20 @@ splice within done (b ∷ bs) left =
     and_then (within (codes ".splice") (is_unsplice b) b left) (λ f rest. splice within (done ++ added (is_unsplice b) f) bs rest)
 
 -- The first argument of `.map`, `.for-each` and `.apply`, as the head of a call: a `.pmacro` form stands for itself.
-abbrev pub head_of : Expander → BuiltIn → Body → ℕ → Out Body
+unfoldable pub head_of : Expander → BuiltIn → Body → ℕ → Out Body
 head_of within b e left =
-    choose (pmacro_form e) (λ form. and_then (lift (pmacro form) left) (λ m rest. Ok (e, rest)))
+    choose (pmacro_form e) (λ form. then_out (pmacro form) (λ m. Ok (e, left)))
     (and_then (within (name_of b) false e left) (λ f rest. Ok (Quoted f, rest)))
+
+-- the arguments and the body of a macro with arguments
+abbrev pub with_arguments : Option Macro → Option (List (List ℕ) × Body)
+with_arguments None = None
+with_arguments (Some m) = choose m.formals (λ names. Some (names, m.body)) None
 
 -- a name that may be mapped or applied: of a macro with arguments, or of a built-in that isn't one of the six
 abbrev pub may_be_called : List Macro → List ℕ → Bool
 may_be_called macros name =
-    choose (macro_named macros name) (λ m. choose m.formals (λ names. true) false) false || choose (built_in name) (λ b. not (is_lazy b)) false
+    choose (with_arguments (macro_named macros name)) (λ p. true) false || choose (built_in name) (λ b. not (is_lazy b)) false
 
 abbrev pub is_callable : List Macro → Body → Bool
 is_callable macros m = choose (pmacro_form m) (λ form. true) (choose (called m) (may_be_called macros) false)
@@ -219,9 +224,6 @@ is_callable macros m = choose (pmacro_form m) (λ form. true) (choose (called m)
 -- the elements of a list
 abbrev pub elements_of : Form → List Form
 elements_of f = choose (form_elements f) (λ fs. fs) []
-
-abbrev pub is_form_list : Form → Bool
-is_form_list f = choose (form_elements f) (λ fs. true) false
 
 -- the call of m on quoted arguments
 abbrev pub call_of : Body → List Form → Body
@@ -238,9 +240,6 @@ calls within b m ls done zero k left = Ok (done, left)
 calls within b m ls done (suc n) k left =
     and_then (within (name_of b) false (call_of m (row k ls)) left) (λ f rest. calls within b m ls (done ++ f ∷ []) n (k + 1) rest)
 
-abbrev pub has_length : ℕ → Form → Bool
-has_length n f = length (elements_of f) == n
-
 abbrev pub is_for_each : BuiltIn → Bool
 is_for_each own.ForEach = true
 is_for_each _ = false
@@ -253,42 +252,47 @@ is_apply _ = false
 abbrev pub beginning : BuiltIn → List Form
 beginning b = if is_for_each b then form.Symbol (codes "begin") ∷ [] else []
 
-abbrev pub mapped : Expander → BuiltIn → Body → List Form → ℕ → Out Form
-mapped within b m [] left = Err (misfit b)
-mapped within b m (l ∷ ls) left = listed (calls within b m (l ∷ ls) (beginning b) (length (elements_of l)) 0 left)
+unfoldable pub mapped : Expander → BuiltIn → Body → List Form → ℕ → Out Form
+mapped within b m args left =
+    choose (slice_get args 0) (λ l. listed (calls within b m args (beginning b) (length (elements_of l)) 0 left)) (Err (misfit b))
 
-abbrev pub applied : Expander → Body → List Form → ℕ → Out Form
-applied within m [] left = Err (misfit own.Apply)
-applied within m (l ∷ ls) left = within (codes ".apply") false (call_of m (elements_of l)) left
+unfoldable pub applied : Expander → Body → List Form → ℕ → Out Form
+applied within m args left =
+    choose (slice_get args 0) (λ l. within (codes ".apply") false (call_of m (elements_of l)) left) (Err (misfit own.Apply))
 
 -- how many lists they take
 abbrev pub takes_lists : BuiltIn → ℕ → Bool
 takes_lists b n = if is_apply b then n == 1 else nat_lt 0 n
 
+abbrev pub is_list_of : ℕ → Form → Bool
+is_list_of n f = choose (form_elements f) (λ fs. length fs == n) false
+
 -- the arguments are lists that are equally long
 abbrev pub are_lists : List Form → Bool
 are_lists [] = true
-are_lists (l ∷ ls) = is_form_list l && list_all is_form_list ls && list_all (has_length (length (elements_of l))) ls
+are_lists (l ∷ ls) = choose (form_elements l) (λ fs. list_all (is_list_of (length fs)) (l ∷ ls)) false
 
 -- E201 comes before E202.
-abbrev pub over_checked : List Macro → BuiltIn → Body → List Form → Answer (Unit {0})
+unfoldable pub over_checked : List Macro → BuiltIn → Body → List Form → Answer (Unit {0})
 over_checked macros b m args =
     if takes_lists b (length args) then if is_callable macros m && are_lists args then Ok tt else Err (misfit b)
     else Err (miscounted b)
 
-abbrev pub over : List Macro → Expander → BuiltIn → Body → List Form → ℕ → Out Form
+unfoldable pub over : List Macro → Expander → BuiltIn → Body → List Form → ℕ → Out Form
 over macros within b m args left =
-    and_then (lift (over_checked macros b m args) left) (λ _ rest. if is_apply b then applied within m args rest else mapped within b m args rest)
+    then_out (over_checked macros b m args) (λ _. if is_apply b then applied within m args left else mapped within b m args left)
 
 -- `.map`, `.for-each` and `.apply`
 abbrev pub call_over : List Macro → Expander → BuiltIn → List Body → ℕ → Out Form
-call_over macros within b [] left = Err (miscounted b)
-call_over macros within b (m ∷ args) left =
-    and_then (head_of within b m left) (λ head rest. and_then (each within (name_of b) [] args rest) (over macros within b head))
+call_over macros within b items left =
+    choose (slice_get items 0)
+    (λ m. and_then (head_of within b m left) (λ head rest. and_then (each within (name_of b) [] (drop 1 items) rest) (over macros within b head)))
+    (Err (miscounted b))
 
 -- a `.pmacro` form that is neither a head nor mapped or applied
-abbrev pub stray_pmacro : List Body → ℕ → Out Form
-stray_pmacro args left = and_then (lift (pmacro (Symbol (codes ".pmacro") ∷ args)) left) (λ m rest. Err (misfit own.Pmacro))
+abbrev pub stray_pmacro : List Body → Answer Form
+stray_pmacro (formals ∷ b ∷ []) = Err (misfit own.Pmacro)
+stray_pmacro _ = Err (miscounted own.Pmacro)
 
 -- how a built-in is called
 abbrev pub manner : BuiltIn → Manner
@@ -309,7 +313,7 @@ abbrev pub call_by : Manner → List Macro → Expander → BuiltIn → Bool →
 call_by way.Choice macros within b spliced args left = expand_taken within b (take within b args left)
 call_by way.Let macros within b spliced args left = call_let within b false args left
 call_by way.LetStar macros within b spliced args left = call_let within b true args left
-call_by way.Pmacro macros within b spliced args left = stray_pmacro args left
+call_by way.Pmacro macros within b spliced args left = lift (stray_pmacro args) left
 call_by way.Over macros within b spliced args left = call_over macros within b args left
 call_by way.Splice macros within b spliced args left = listed (splice within [] args left)
 call_by way.Iota macros within b spliced args left = and_then (each within (name_of b) [] args left) (λ fs rest. lift (affordable rest (iota_of fs)) rest)
@@ -324,26 +328,31 @@ plain_list within inner None bs left = listed (each within inner [] bs left)
 plain_list within inner (Some name) bs left =
     if begins_with_dot name then Err (fault 207 name) else listed (each within inner [] bs left)
 
-abbrev pub with_formals : Option Macro → Option Macro
-with_formals None = None
-with_formals (Some m) = choose m.formals (λ names. Some m) None
+abbrev pub macro_called : Expander → List ℕ → List (List ℕ) → Body → List Body → ℕ → Out Form
+macro_called within name formals b args left = charged name (and_then (each within name [] args left) (call_written within name formals b))
+
+unfoldable pub own_called : List Macro → Expander → BuiltIn → Bool → List Body → ℕ → Out Form
+own_called macros within b spliced args left = charged (name_of b) (call_built_in macros within b spliced args left)
 
 -- a list whose head isn't a `.pmacro` form
 abbrev pub named_list : List Macro → Option Expander → List ℕ → Bool → List ℕ → List Body → ℕ → Out Form
 named_list macros further inner spliced name bs left =
-    choose (with_formals (macro_named macros name))
-    (λ m. entered further name (λ within. charged name (and_then (each within name [] (drop 1 bs) left) (call_macro within m))))
+    choose (with_arguments (macro_named macros name))
+    (λ p. entered further name (λ within. macro_called within name p.0 p.1 (drop 1 bs) left))
     (choose (built_in name)
-    (λ b. entered further name (λ within. charged name (call_built_in macros within b spliced (drop 1 bs) left)))
+    (λ b. entered further (name_of b) (λ within. own_called macros within b spliced (drop 1 bs) left))
     (entered further inner (λ within. plain_list within inner (Some name) bs left)))
 
-abbrev pub list_expanded : List Macro → Option Expander → List ℕ → Bool → List Body → ℕ → Out Form
+abbrev pub entered_plain : Option Expander → List ℕ → List Body → ℕ → Out Form
+entered_plain further inner bs left = entered further inner (λ within. plain_list within inner None bs left)
+
+unfoldable pub list_expanded : List Macro → Option Expander → List ℕ → Bool → List Body → ℕ → Out Form
 list_expanded macros further inner spliced bs left =
     choose (pmacro_head bs)
-    (λ form. entered further (codes ".pmacro") (λ within. charged (codes ".pmacro") (call_pmacro within form (drop 1 bs) left)))
+    (λ form. entered further (codes ".pmacro") (λ within. call_pmacro within form (drop 1 bs) left))
     (choose (head_name bs)
     (λ name. named_list macros further inner spliced name bs left)
-    (entered further inner (λ within. plain_list within inner None bs left)))
+    (entered_plain further inner bs left))
 
 -- a macro that has no arguments
 abbrev pub without_formals : Option Macro → Option Macro
@@ -365,7 +374,7 @@ level macros further inner spliced (body.Flag b) left = Ok (form.Flag b, left)
 level macros further inner spliced (body.Items bs) left = list_expanded macros further inner spliced bs left
 
 -- What a form expands to, where lists and symbols that expand may still stand so deep one within another.
-abbrev pub expanded : List Macro → ℕ → Expander
+unfoldable pub expanded : List Macro → ℕ → Expander
 expanded macros zero inner spliced b left = level macros None inner spliced (out-Body b) left
 expanded macros (suc k) inner spliced b left = level macros (Some (expanded macros k)) inner spliced (out-Body b) left
 

@@ -33,6 +33,11 @@ abbrev pub lift : {A : Type 0} → Answer A → ℕ → Out A
 lift (Ok a) left = Ok (a, left)
 lift (Err x) left = Err x
 
+-- an answer that costs nothing, and what comes of it
+abbrev pub then_out : {A B : Type 0} → Answer A → (A → Out B) → Out B
+then_out (Ok a) next = next a
+then_out (Err x) next = Err x
+
 -- the answer of an option, or that fault
 abbrev pub or_fault : {A : Type 0} → Option A → Fault → Answer A
 or_fault (Some a) x = Ok a

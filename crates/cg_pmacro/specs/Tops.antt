@@ -11,7 +11,9 @@ use Rattle.cg_pmacro.specs.declared.body.Body.TheOpen as body
 use Rattle.cg_pmacro.specs.declared.body.Body.TheOpen.{Body-F}
 use Rattle.cg_pmacro.specs.declared.body.Macro.{Macro}
 use Rattle.cg_pmacro.specs.declared.fault.Fault.{Fault}
-use Rattle.cg_pmacro.specs.Outcome.{Answer, Out, fault, choose, onward}
+use Rattle.cg_pmacro.specs.declared.fault.Halt.{Halt}
+use Rattle.cg_pmacro.specs.declared.fault.Halt.TheVariants as halt
+use Rattle.cg_pmacro.specs.Outcome.{Answer, Out, Halts, fault, choose, onward}
 use Rattle.cg_pmacro.specs.Sizes.{lists, levels}
 use Rattle.cg_pmacro.specs.Shapes.{plain, form_symbol, head_name, is_named, own_symbol, elements, macro_named, begins_with_dot}
 use Rattle.cg_pmacro.specs.BuiltIns.{form_elements}
@@ -30,9 +32,13 @@ abbrev pub split_each : (Form → Answer (List Form)) → List Form → List For
 split_each one done [] = Ok done
 split_each one done (f ∷ fs) = onward (one f) (λ parts. split_each one (done ++ parts) fs)
 
+-- the elements of a list behind its head
+abbrev pub behind_head : Form → List Form
+behind_head f = drop 1 (choose (form_elements f) (λ fs. fs) [])
+
 abbrev pub split_named : Option (Form → Answer (List Form)) → Form → Option (List ℕ) → Answer (List Form)
 split_named within f name =
-    if is_named (codes "begin") name then choose within (λ one. split_each one [] (drop 1 (choose (form_elements f) (λ fs. fs) []))) (Ok [])
+    if is_named (codes "begin") name then choose within (λ one. split_each one [] (behind_head f)) (Ok [])
     else if is_named (codes "include") name then Err (fault 307 (codes "include"))
     else if is_named (codes "define-pmacro") name then Err (fault 307 (codes "define-pmacro"))
     else Ok (f ∷ [])
@@ -40,6 +46,11 @@ split_named within f name =
 abbrev pub split_to : ℕ → Form → Answer (List Form)
 split_to zero f = split_named None f (form_head f)
 split_to (suc k) f = split_named (Some (split_to k)) f (form_head f)
+
+-- how a form one list further in splits
+abbrev pub further_split : ℕ → Option (Form → Answer (List Form))
+further_split zero = None
+further_split (suc k) = Some (split_to k)
 
 -- The forms that a result stands for: its elements where it is headed by `begin`, and so on inwards.
 abbrev pub split : Form → Answer (List Form)
@@ -85,11 +96,14 @@ macro_of name named b =
     (λ bs. choose (names_of [] (drop 1 bs)) (λ names. Ok (record { name = name; formals = Some names; body = b })) (Err (fault 202 name)))
     (Ok (record { name = name; formals = None; body = b }))
 
-abbrev pub defined : List Macro → List Body → Answer Macro
-defined macros (d ∷ named ∷ b ∷ []) =
+abbrev pub defined_as : List Macro → Body → Body → Answer Macro
+defined_as macros named b =
     choose (defined_name named)
     (λ name. if is_known macros name || begins_with_dot name then Err (fault 206 name) else macro_of name named b)
     (Err (fault 202 (codes "define-pmacro")))
+
+abbrev pub defined : List Macro → List Body → Answer Macro
+defined macros (d ∷ named ∷ b ∷ []) = defined_as macros named b
 defined macros bs = Err (fault 202 (misdefined_name bs))
 
 -- the macro of a definition
@@ -138,9 +152,19 @@ abbrev pub top_to : ℕ → Body → State → Topped
 top_to zero b s = top_layer None b s
 top_to (suc k) b s = top_layer (Some (top_to k)) b s
 
+-- how a top form one list further in stands
+abbrev pub further_top : ℕ → Option (Body → State → Topped)
+further_top zero = None
+further_top (suc k) = Some (top_to k)
+
 -- What a top form as read stands for: a definition for nothing, and a `begin` for its elements.
 abbrev pub topped : Body → State → Topped
 topped b s = top_to (levels b) b s
+
+-- This is the outcome, with the macros that are known then and the units that are left.
+abbrev pub GivesTop : Topped → Result (List Form) Halt → List Macro → ℕ → Type 0
+GivesTop out (Ok fs) macros left = out ≡ Ok (fs, state macros left)
+GivesTop out (Err h) macros left = Halts out h
 
 -- a form that came from a top form
 abbrev pub placed : Top → Form → Top
@@ -157,6 +181,15 @@ refused t (Err x) = Err (refusal x t)
 abbrev pub after : {A B : Type 0} → Result A Refusal → (A → Result B Refusal) → Result B Refusal
 after (Ok a) next = next a
 after (Err r) next = Err r
+
+-- what came to a halt in a top form stops with its refusal
+abbrev pub stop_of : Top → Halt → Stop
+stop_of t halt.NoMemory = NoMemory
+stop_of t (halt.Faulty x) = Refused (refusal x t)
+
+abbrev pub stopped : {A : Type 0} → Top → Result A Halt → Result A Stop
+stopped t (Ok a) = Ok a
+stopped t (Err h) = Err (stop_of t h)
 
 -- top forms from the first to the last, behind what is done
 abbrev pub all_expanded : List Top → List Top → State → Result Forms Refusal

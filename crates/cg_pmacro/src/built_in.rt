@@ -215,6 +215,7 @@ impl BuiltIn {
 }
 
 /// The built-in that has that name.
+#[tactic(auto, unfolding(crate::specs::BuiltIns::built_in))]
 pub fn built_in(name: &[u8]) -> Option<BuiltIn>
     ensures { result ≡ named name.now }
 {
