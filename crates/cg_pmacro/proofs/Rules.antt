@@ -1,0 +1,80 @@
+-- The equations of the meanings that recurse on how deep lists may stand.
+use Rattle.std.proofs.Common.{◌≡◌, ◌≢◌, ℕ, zero, suc, ◌+◌, ◌-◌, Bool, false, ℤ, List, [], ◌∷◌, ◌++◌, Option, Some, None, Result, Ok, Err, ap, refl, arith}
+use Rattle.std.proofs.lemmas.Grind.{common_steps}
+use Rattle.cg_base.specs.declared.form.Form.{Form}
+use Rattle.cg_pmacro.specs.declared.fault.Fault.{Fault}
+use Rattle.cg_pmacro.specs.declared.fault.Halt.{Halt}
+use Rattle.cg_pmacro.specs.declared.fault.Halt.TheVariants.{Faulty, NoMemory}
+use Rattle.cg_pmacro.specs.declared.body.Body.{Body}
+use Rattle.cg_pmacro.specs.declared.body.Body.TheViews.{out-Body, outs-Quoted, outs-Number, outs-Symbol, outs-Str, outs-Flag, outs-Items}
+use Rattle.cg_pmacro.specs.declared.body.Body.TheVariants.{Quoted, Number, Symbol, Str, Flag, Items}
+use Rattle.cg_pmacro.specs.declared.body.Macro.{Macro}
+use Rattle.cg_pmacro.specs.Outcome.{Answer, and_then, Answers, Gives, Halts, IsHalt, lift}
+use Rattle.cg_pmacro.specs.declared.built_in.BuiltIn.{BuiltIn}
+use Rattle.cg_pmacro.specs.Shapes.{head_name}
+use Rattle.cg_pmacro.specs.BuiltIns.{name_of}
+use Rattle.cg_pmacro.specs.Replacing.{Table, replaced_to, replaced_layer, looked_up, elements_replaced}
+use Rattle.cg_pmacro.specs.Expansion.{Expander, expanded, further, level, calls, call_of, row}
+
+pub replaced_symbol : (k : ℕ) (t : Table) (s : List ℕ) → replaced_to k t (Symbol s) ≡ looked_up t s
+replaced_symbol zero t s = ap (replaced_layer None t (Symbol s)) (outs-Symbol s)
+replaced_symbol (suc k) t s = ap (replaced_layer (Some (replaced_to k)) t (Symbol s)) (outs-Symbol s)
+
+pub replaced_quoted : (k : ℕ) (t : Table) (f : Form) → replaced_to k t (Quoted f) ≡ Quoted f
+replaced_quoted zero t f = ap (replaced_layer None t (Quoted f)) (outs-Quoted f)
+replaced_quoted (suc k) t f = ap (replaced_layer (Some (replaced_to k)) t (Quoted f)) (outs-Quoted f)
+
+pub replaced_number : (k : ℕ) (t : Table) (n : ℤ) → replaced_to k t (Number n) ≡ Number n
+replaced_number zero t n = ap (replaced_layer None t (Number n)) (outs-Number n)
+replaced_number (suc k) t n = ap (replaced_layer (Some (replaced_to k)) t (Number n)) (outs-Number n)
+
+pub replaced_string : (k : ℕ) (t : Table) (s : List ℕ) → replaced_to k t (Str s) ≡ Str s
+replaced_string zero t s = ap (replaced_layer None t (Str s)) (outs-Str s)
+replaced_string (suc k) t s = ap (replaced_layer (Some (replaced_to k)) t (Str s)) (outs-Str s)
+
+pub replaced_flag : (k : ℕ) (t : Table) (b : Bool) → replaced_to k t (Flag b) ≡ Flag b
+replaced_flag zero t b = ap (replaced_layer None t (Flag b)) (outs-Flag b)
+replaced_flag (suc k) t b = ap (replaced_layer (Some (replaced_to k)) t (Flag b)) (outs-Flag b)
+
+pub replaced_items : (k : ℕ) (t : Table) (bs : List Body) → k ≢ 0 → replaced_to k t (Items bs) ≡ Items (elements_replaced (replaced_to (k - 1)) t (head_name bs) bs)
+replaced_items zero t bs h = absurd (h refl)
+replaced_items (suc k) t bs h =
+    let e : suc k - 1 ≡ k = omega arith in
+    rw e (ap (replaced_layer (Some (replaced_to k)) t (Items bs)) (outs-Items bs))
+
+pub ruleset replacing_rules = (common_steps, replaced_symbol, replaced_quoted, replaced_number, replaced_string, replaced_flag, replaced_items)
+
+pub expanded_out : (macros : List Macro) (k : ℕ) (inner : List ℕ) (spliced : Bool) (b : Body) (left : ℕ) → expanded macros k inner spliced b left ≡ level macros (further macros k) inner spliced (out-Body b) left
+unfolding expanded
+expanded_out macros zero inner spliced b left = refl
+expanded_out macros (suc k) inner spliced b left = refl
+
+pub further_none : (macros : List Macro) (k : ℕ) → k ≡ 0 → further macros k ≡ None
+further_none macros zero h = refl
+further_none macros (suc k) h = absurd (omega arith)
+
+pub further_some : (macros : List Macro) (k : ℕ) → k ≢ 0 → further macros k ≡ Some (expanded macros (k - 1))
+further_some macros zero h = absurd (h refl)
+further_some macros (suc k) h = let e : suc k - 1 ≡ k = omega arith in rw e refl
+
+pub halts_of : (A : Type 0) (x : Fault) (h : Halt) → IsHalt x h → Halts {A = A} (Err x) h
+halts_of A x NoMemory e = tt
+halts_of A x (Faulty y) e = ap Err e
+
+pub gives_lifted : {A : Type 0} (out : Answer A) (r : Result A Halt) (left : ℕ) → Answers out r → Gives (lift out left) r left
+gives_lifted (Ok a) (Ok b) left e = cc
+gives_lifted (Err x) (Ok b) left e = absurd (cc)
+gives_lifted (Ok a) (Err NoMemory) left e = tt
+gives_lifted (Err x) (Err NoMemory) left e = tt
+gives_lifted (Ok a) (Err (Faulty y)) left e = absurd (cc)
+gives_lifted (Err x) (Err (Faulty y)) left e = cc
+
+pub calls_none : (w : Expander) (b : BuiltIn) (m : Body) (ls done : List Form) (n k left : ℕ) → n ≡ 0 → calls w b m ls done n k left ≡ Ok (done, left)
+calls_none w b m ls done zero k left h = refl
+calls_none w b m ls done (suc n) k left h = absurd (omega arith)
+
+pub calls_more : (w : Expander) (b : BuiltIn) (m : Body) (ls done : List Form) (n k left : ℕ) → n ≢ 0 → calls w b m ls done n k left ≡ and_then (w (name_of b) false (call_of m (row k ls)) left) (λ f rest. calls w b m ls (done ++ f ∷ []) (n - 1) (k + 1) rest)
+calls_more w b m ls done zero k left h = absurd (h refl)
+calls_more w b m ls done (suc n) k left h = let e : suc n - 1 ≡ n = omega arith in rw e refl
+
+pub ruleset expansion_rules = (common_steps, calls_none, calls_more, expanded_out, further_none, further_some, halts_of, gives_lifted)

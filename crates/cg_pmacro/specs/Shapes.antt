@@ -1,0 +1,119 @@
+-- What can be seen of a form with quoted leaves.
+use Rattle.std.specs.Prelude.{ℕ, Bool, true, false, not, ◌&&◌, ◌==◌, List, [], ◌∷◌, length, Option, Some, None, codes, if◌then◌else◌}
+use Rattle.std.specs.List.{list_any, find}
+use Rattle.std.specs.Cmp.Lexicographic.{pointwise}
+use Rattle.cg_base.specs.declared.form.Form.{Form, fold-Form, out-Form}
+use Rattle.cg_base.specs.declared.form.Form.TheOpen as layer
+use Rattle.cg_base.specs.declared.form.Form.TheOpen.{Form-F}
+use Rattle.cg_base.specs.declared.form.Form.TheVariants as form
+use Rattle.cg_base.specs.contracts.form.FormPartialEq.TheImpl as equality
+use Rattle.cg_pmacro.specs.declared.body.Body.{Body, fold-Body, out-Body}
+use Rattle.cg_pmacro.specs.declared.body.Body.TheOpen as body
+use Rattle.cg_pmacro.specs.declared.body.Body.TheOpen.{Body-F}
+use Rattle.cg_pmacro.specs.declared.body.Body.TheVariants.{Quoted, Number, Symbol, Str, Flag, Items}
+use Rattle.cg_pmacro.specs.declared.body.Macro.{Macro}
+
+abbrev pub same_text : List ℕ → List ℕ → Bool
+same_text = pointwise ◌==◌
+
+-- the same kind of form with the same content
+abbrev pub same_form : Form → Form → Bool
+same_form = (equality.ghosts).eq
+
+abbrev pub plain_step : Form-F Body → Body
+plain_step (layer.Number n) = Number n
+plain_step (layer.Symbol s) = Symbol s
+plain_step (layer.Str s) = Str s
+plain_step (layer.Flag b) = Flag b
+plain_step (layer.Items bs) = Items bs
+
+-- a form as read, which has no quoted leaf
+abbrev pub plain : Form → Body
+plain = fold-Form Body plain_step
+
+abbrev pub written_step : Body-F Form → Form
+written_step (body.Quoted f) = f
+written_step (body.Number n) = form.Number n
+written_step (body.Symbol s) = form.Symbol s
+written_step (body.Str s) = form.Str s
+written_step (body.Flag b) = form.Flag b
+written_step (body.Items fs) = form.Items fs
+
+-- a form as it is written, which isn't expanded: its quoted leaves are their content
+abbrev pub written : Body → Form
+written = fold-Body Form written_step
+
+-- the text of a form that is a symbol
+abbrev pub symbol_layer : Form-F Form → Option (List ℕ)
+symbol_layer (layer.Symbol s) = Some s
+symbol_layer _ = None
+
+abbrev pub form_symbol : Form → Option (List ℕ)
+form_symbol f = symbol_layer (out-Form f)
+
+abbrev pub called_layer : Body-F Body → Option (List ℕ)
+called_layer (body.Quoted f) = form_symbol f
+called_layer (body.Symbol s) = Some s
+called_layer _ = None
+
+-- the symbol that a form is in the place of a head: a quoted leaf that holds a symbol counts as that symbol
+abbrev pub called : Body → Option (List ℕ)
+called b = called_layer (out-Body b)
+
+-- the symbol in the place of a list's head
+abbrev pub head_name : List Body → Option (List ℕ)
+head_name [] = None
+head_name (b ∷ bs) = called b
+
+abbrev pub is_named : List ℕ → Option (List ℕ) → Bool
+is_named name None = false
+is_named name (Some s) = same_text s name
+
+abbrev pub own_symbol_layer : Body-F Body → Option (List ℕ)
+own_symbol_layer (body.Symbol s) = Some s
+own_symbol_layer _ = None
+
+-- the text of a symbol that stands itself in its place
+abbrev pub own_symbol : Body → Option (List ℕ)
+own_symbol b = own_symbol_layer (out-Body b)
+
+abbrev pub elements_layer : Body-F Body → Option (List Body)
+elements_layer (body.Items bs) = Some bs
+elements_layer _ = None
+
+-- the elements of a list
+abbrev pub elements : Body → Option (List Body)
+elements b = elements_layer (out-Body b)
+
+-- the elements of a list that is headed by `.pmacro`
+abbrev pub headed_pmacro : Option (List Body) → Option (List Body)
+headed_pmacro None = None
+headed_pmacro (Some bs) = if is_named (codes ".pmacro") (head_name bs) then Some bs else None
+
+abbrev pub pmacro_form : Body → Option (List Body)
+pmacro_form b = headed_pmacro (elements b)
+
+-- the elements of a `.pmacro` form in the place of a list's head
+abbrev pub pmacro_head : List Body → Option (List Body)
+pmacro_head [] = None
+pmacro_head (b ∷ bs) = pmacro_form b
+
+abbrev pub two_of : Option (List Body) → Option (Body × Body)
+two_of (Some (c ∷ e ∷ [])) = Some (c, e)
+two_of _ = None
+
+-- the two elements of a list of two
+abbrev pub pair_of : Body → Option (Body × Body)
+pair_of b = two_of (elements b)
+
+-- the macro of that name
+abbrev pub macro_named : List Macro → List ℕ → Option Macro
+macro_named macros name = find (λ m. same_text m.name name) macros
+
+-- that name stands among the names
+abbrev pub is_among : List ℕ → List (List ℕ) → Bool
+is_among name names = list_any (λ n. same_text n name) names
+
+abbrev pub begins_with_dot : List ℕ → Bool
+begins_with_dot [] = false
+begins_with_dot (b ∷ bs) = b == 46

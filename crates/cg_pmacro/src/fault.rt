@@ -1,0 +1,51 @@
+ghost use Rattle.std.specs.Prelude.{◌≡◌};
+ghost use Rattle.cg_pmacro.specs.declared.fault.Halt.TheVariants.{NoMemory as OutOfMemory};
+ghost use Rattle.cg_pmacro.specs.Outcome.{fault, IsHalt};
+
+use cg_base::{NoMemory, Text};
+use std::alloc::{AllocError, Global};
+
+/// What is wrong in an expansion, without its place (docs/REFUSALS.md, 201 to 207 and 307).
+#[derive(Debug, Drop)]
+pub struct Fault {
+    /// Which refusal it is, as 201 for `E201`.
+    pub number: u16,
+    /// The macro, or what the refusal's row says.
+    pub text: Text,
+}
+
+/// Why an expansion stopped without its form.
+#[derive(Debug, Drop)]
+pub enum Halt {
+    /// The description is at fault.
+    Faulty(Fault),
+    /// Memory ran out.
+    NoMemory,
+}
+
+impl From<NoMemory> for Halt {
+    ghost from_gives = { λ _ halt. halt ≡ OutOfMemory };
+
+    fn from(_: NoMemory) -> Self {
+        Halt::NoMemory
+    }
+}
+
+impl From<AllocError> for Halt {
+    ghost from_gives = { λ _ halt. halt ≡ OutOfMemory };
+
+    fn from(_: AllocError) -> Self {
+        Halt::NoMemory
+    }
+}
+
+/// What the fault of that number with that text comes to.
+#[inline(never)]
+pub fn faulty(alloc: Global, number: u16, text: &[u8]) -> Halt
+    ensures { IsHalt (fault number text.now) result }
+{
+    match Text::of(alloc, text) {
+        Ok(text) => Halt::Faulty(Fault { number, text }),
+        Err(_) => Halt::NoMemory,
+    }
+}

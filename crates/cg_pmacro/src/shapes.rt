@@ -1,0 +1,228 @@
+ghost use Rattle.std.specs.Prelude.{◌≡◌, IfOk};
+ghost use Rattle.std.specs.Option.{option_copied, option_map};
+ghost use Rattle.cg_pmacro.specs.Shapes as seen;
+ghost use Rattle.cg_pmacro.specs.Expansion.{is_list as has_elements};
+
+use crate::body::{Body, Macro};
+use cg_base::{Form, List, NoMemory, Text};
+use std::alloc::Global;
+
+/// A form as read: it has no quoted leaf.
+pub fn plain(alloc: Global, form: &Form) -> Result<Body, NoMemory>
+    ensures { IfOk result (λ body. body ≡ seen.plain form.now) }
+{
+    match form {
+        Form::Number(number) => Ok(Body::Number(*number)),
+        Form::Symbol(text) => Ok(Body::Symbol(text.clone()?)),
+        Form::Str(text) => Ok(Body::Str(text.clone()?)),
+        Form::Flag(flag) => Ok(Body::Flag(*flag)),
+        Form::Items(items) => {
+            let mut bodies = List::new(alloc);
+            for item in items.as_slice() {
+                bodies.push(plain(alloc, item)?)?;
+            }
+            Ok(Body::Items(bodies))
+        }
+    }
+}
+
+/// A form as it is written, its quoted leaves as their content.
+pub fn written(alloc: Global, body: &Body) -> Result<Form, NoMemory>
+    ensures { IfOk result (λ form. form ≡ seen.written body.now) }
+{
+    match body {
+        Body::Quoted(value) => Ok(value.form().clone()?),
+        Body::Number(number) => Ok(Form::Number(*number)),
+        Body::Symbol(text) => Ok(Form::Symbol(text.clone()?)),
+        Body::Str(text) => Ok(Form::Str(text.clone()?)),
+        Body::Flag(flag) => Ok(Form::Flag(*flag)),
+        Body::Items(items) => {
+            let mut forms = List::new(alloc);
+            for item in items.as_slice() {
+                forms.push(written(alloc, item)?)?;
+            }
+            Ok(Form::Items(forms))
+        }
+    }
+}
+
+/// A copy of a form with quoted leaves, which stay shared.
+pub fn copy(alloc: Global, body: &Body) -> Result<Body, NoMemory>
+    ensures { IfOk result (λ new. new ≡ body.now) }
+{
+    match body {
+        Body::Quoted(value) => Ok(Body::Quoted(value.clone()?)),
+        Body::Number(number) => Ok(Body::Number(*number)),
+        Body::Symbol(text) => Ok(Body::Symbol(text.clone()?)),
+        Body::Str(text) => Ok(Body::Str(text.clone()?)),
+        Body::Flag(flag) => Ok(Body::Flag(*flag)),
+        Body::Items(items) => {
+            let mut copies = List::new(alloc);
+            for item in items.as_slice() {
+                copies.push(copy(alloc, item)?)?;
+            }
+            Ok(Body::Items(copies))
+        }
+    }
+}
+
+/// Whether two texts have the same bytes.
+pub fn same_text(a: &[u8], b: &[u8]) -> bool
+    ensures { result ≡ seen.same_text a.now b.now }
+{
+    a == b
+}
+
+/// Whether two forms are of the same kind with the same content.
+pub fn same_form(a: &Form, b: &Form) -> bool
+    ensures { result ≡ seen.same_form a.now b.now }
+{
+    a == b
+}
+
+/// The text of a form that is a symbol.
+pub fn form_symbol(form: &Form) -> Option<&Text>
+    ensures { option_copied result ≡ seen.form_symbol form.now }
+{
+    match form {
+        Form::Symbol(text) => Some(text),
+        _ => None,
+    }
+}
+
+/// The symbol that the form is in the place of a head.
+pub fn called(body: &Body) -> Option<&Text>
+    ensures { option_copied result ≡ seen.called body.now }
+{
+    match body {
+        Body::Quoted(value) => form_symbol(value.form()),
+        Body::Symbol(text) => Some(text),
+        _ => None,
+    }
+}
+
+/// The symbol in the place of a list's head.
+pub fn head_name(items: &[Body]) -> Option<&Text>
+    ensures { option_copied result ≡ seen.head_name items.now }
+{
+    match items {
+        [] => None,
+        [head, ..] => called(head),
+    }
+}
+
+/// Whether it is a text, and this one.
+pub fn is_named(name: &[u8], found: Option<&Text>) -> bool
+    ensures { result ≡ seen.is_named name.now (option_copied found.entry) }
+{
+    match found {
+        Some(text) => same_text(text.as_slice(), name),
+        None => false,
+    }
+}
+
+/// The text of a symbol that isn't quoted.
+pub fn own_symbol(body: &Body) -> Option<&Text>
+    ensures { option_copied result ≡ seen.own_symbol body.now }
+{
+    match body {
+        Body::Symbol(text) => Some(text),
+        _ => None,
+    }
+}
+
+/// The elements of a list that isn't quoted.
+pub fn elements(body: &Body) -> Option<&[Body]>
+    ensures { option_copied result ≡ seen.elements body.now }
+{
+    match body {
+        Body::Items(items) => Some(items.as_slice()),
+        _ => None,
+    }
+}
+
+/// The elements of a `.pmacro` form.
+pub fn pmacro_form(body: &Body) -> Option<&[Body]>
+    ensures { option_copied result ≡ seen.pmacro_form body.now }
+{
+    let items = elements(body)?;
+    if is_named(b".pmacro", head_name(items)) {
+        Some(items)
+    } else {
+        None
+    }
+}
+
+/// The elements of a `.pmacro` form in the place of a list's head.
+pub fn pmacro_head(items: &[Body]) -> Option<&[Body]>
+    ensures { option_copied result ≡ seen.pmacro_head items.now }
+{
+    match items {
+        [] => None,
+        [head, ..] => pmacro_form(head),
+    }
+}
+
+/// The two elements of a list of two.
+pub fn pair_of(body: &Body) -> Option<(&Body, &Body)>
+    ensures { option_map (λ p. (p.0.now, p.1.now)) result ≡ seen.pair_of body.now }
+{
+    match elements(body)? {
+        [first, second] => Some((first, second)),
+        _ => None,
+    }
+}
+
+/// Whether it is a list that isn't quoted.
+pub fn is_list(body: &Body) -> bool
+    ensures { result ≡ has_elements body.now }
+{
+    matches!(body, Body::Items(_))
+}
+
+/// The macro of that name.
+pub fn macro_named<'m>(macros: &'m [Macro], name: &[u8]) -> Option<&'m Macro>
+    ensures { option_copied result ≡ seen.macro_named macros.now name.now }
+{
+    for each in macros {
+        if same_text(each.name.as_slice(), name) {
+            return Some(each);
+        }
+    }
+    None
+}
+
+/// Whether the name stands among the names.
+pub fn is_among(name: &[u8], names: &[Text]) -> bool
+    ensures { result ≡ seen.is_among name.now names.now }
+{
+    for each in names {
+        if same_text(each.as_slice(), name) {
+            return true;
+        }
+    }
+    false
+}
+
+/// Whether the text begins with a dot.
+pub fn begins_with_dot(text: &[u8]) -> bool
+    ensures { result ≡ seen.begins_with_dot text.now }
+{
+    match text {
+        [] => false,
+        [first, ..] => *first == b'.',
+    }
+}
+
+/// Whether the form is that value, its quoted leaves as their content.
+pub fn is_value(alloc: Global, body: &Body, value: &Form) -> Result<bool, NoMemory>
+    ensures { IfOk result (λ same. same ≡ seen.same_form (seen.written body.now) value.now) }
+{
+    match body {
+        Body::Quoted(content) => Ok(same_form(content.form(), value)),
+        _ => {
+            let form = written(alloc, body)?;
+            Ok(same_form(&form, value))
+        }
+    }
+}

@@ -1,0 +1,98 @@
+ghost use Rattle.std.specs.Prelude.{◌≡◌, ◌-◌, ◌≤◌, ◌↔◌, IsTrue, SomeIff, IfOk};
+ghost use Rattle.cg_pmacro.specs.Sizes.{nodes, lists, levels as how_deep};
+ghost use Rattle.cg_pmacro.specs.Outcome.{Gives};
+ghost use Rattle.cg_pmacro.specs.Expansion.{charge as cost_of};
+
+use crate::body::Body;
+use crate::fault::{Halt, faulty};
+use crate::value::Value;
+use cg_base::{Form, NoMemory};
+use std::alloc::Global;
+
+/// How deep lists may stand one within another in a result.
+const LISTS: u32 = 200;
+
+/// What is left of some units when the form's nodes are taken. None where they are too few.
+pub fn without_nodes(form: &Form, left: u64) -> Option<u64>
+    ensures { SomeIff result (nodes form.now ≤ left) (left - nodes form.now) }
+{
+    match form {
+        Form::Items(items) => {
+            let mut rest = left.checked_sub(1)?;
+            for item in items.as_slice() {
+                rest = without_nodes(item, rest)?;
+            }
+            Some(rest)
+        }
+        _ => left.checked_sub(1),
+    }
+}
+
+/// Whether so many lists stand one within another in the form at most.
+pub fn is_within(form: &Form, most: u32) -> bool
+    ensures { IsTrue result ↔ (lists form.now ≤ most) }
+{
+    match form {
+        Form::Items(items) => {
+            if most == 0 {
+                return false;
+            }
+            for item in items.as_slice() {
+                if !is_within(item, most - 1) {
+                    return false;
+                }
+            }
+            true
+        }
+        _ => true,
+    }
+}
+
+/// How many lists stand one within another in the form.
+pub fn form_depth(form: &Form) -> Result<u64, NoMemory>
+    ensures { IfOk result (λ depth. depth ≡ lists form.now) }
+{
+    match form {
+        Form::Items(items) => {
+            let mut depth = 0;
+            for item in items.as_slice() {
+                depth = form_depth(item)?.max(depth);
+            }
+            depth.checked_add(1).ok_or(NoMemory)
+        }
+        _ => Ok(0),
+    }
+}
+
+/// How many lists stand one within another in the form, quoted leaves aside.
+pub fn levels(body: &Body) -> Result<u64, NoMemory>
+    ensures { IfOk result (λ depth. depth ≡ how_deep body.now) }
+{
+    match body {
+        Body::Items(items) => {
+            let mut depth = 0;
+            for item in items.as_slice() {
+                depth = levels(item)?.max(depth);
+            }
+            depth.checked_add(1).ok_or(NoMemory)
+        }
+        _ => Ok(0),
+    }
+}
+
+/// The result of a call, once its cost is taken from the units that are left.
+pub fn charge(alloc: Global, name: &[u8], value: Value, left: &mut u64) -> Result<Value, Halt>
+    ensures { Gives (cost_of name.now value left.old) result left.new }
+{
+    let Some(before) = left.checked_sub(1) else {
+        return Err(faulty(alloc, 203, b"4000000"));
+    };
+    let Some(rest) = without_nodes(value.form(), before) else {
+        return Err(faulty(alloc, 203, b"4000000"));
+    };
+    if !is_within(value.form(), LISTS) {
+        return Err(faulty(alloc, 204, name));
+    }
+    *left = rest;
+    Ok(value)
+}

@@ -1,0 +1,317 @@
+ghost use Rattle.std.specs.Prelude.{◌≡◌, ◌++◌, [], map, drop, OnOk};
+ghost use Rattle.std.specs.Option.{option_copied};
+ghost use Rattle.cg_pmacro.specs.Outcome.{Answers, IsHalt, fault};
+ghost use Rattle.cg_pmacro.specs.Shapes.{plain as plain_of};
+ghost use Rattle.cg_pmacro.specs.Tops as meant;
+
+use crate::arguments::form_elements;
+use crate::body::{Body, Macro};
+use crate::expander::{expand as expand_form, names_of};
+use crate::fault::{Fault, Halt, faulty};
+use crate::shapes::{
+    begins_with_dot, copy, elements, form_symbol, head_name, is_list, is_named, macro_named,
+    own_symbol, plain,
+};
+use crate::sizes::{form_depth, levels};
+use cg_base::{Form, Forms, List, NoMemory, Refusal, Stop, Text, Top};
+use std::alloc::Global;
+
+/// What `(include "simplify.inc")` reads: the short forms of definitions
+/// (docs/LANGUAGE.md, "Macros").
+pub const SHORT_FORMS: &[u8] =
+    b"(define-pmacro (df n c a s l m e d) (define-ifield (name n) (comment c) (.splice attrs (.unsplice a)) (start s) (length l) (mode m) (encode e) (decode d)))\n\
+(define-pmacro (dnf n c a s l) (define-ifield (name n) (comment c) (.splice attrs (.unsplice a)) (start s) (length l)))\n\
+(define-pmacro (dnmf n c a m s i e) (define-multi-ifield (name n) (comment c) (.splice attrs (.unsplice a)) (mode m) (.splice subfields (.unsplice s)) (insert i) (extract e)))\n\
+(define-pmacro (dnop n c a t i) (define-operand (name n) (comment c) (.splice attrs (.unsplice a)) (type t) (index i)))\n\
+(define-pmacro (dnh n c a t i v h) (define-hardware (name n) (comment c) (.splice attrs (.unsplice a)) (.splice type (.unsplice t)) (.splice indices (.unsplice i)) (.splice values (.unsplice v)) (.splice handlers (.unsplice h))))\n\
+(define-pmacro (dsh n c a t) (define-hardware (name n) (comment c) (.splice attrs (.unsplice a)) (.splice type (.unsplice t))))\n\
+(define-pmacro (dni n c a s f m t) (define-insn (name n) (comment c) (.splice attrs (.unsplice a)) (syntax s) (format f) (semantics m) (.splice timing (.unsplice t))))\n\
+(define-pmacro (dnmi n c a s e) (define-macro-insn (name n) (comment c) (.splice attrs (.unsplice a)) (syntax s) (expansions e)))\n\
+";
+
+/// How many units the expansions of a description cost at most.
+const BUDGET: u64 = 4_000_000;
+
+/// How deep expansions may stand one within another.
+const DEPTH: u32 = 1_000;
+
+/// The forms that the top forms of a description stand for, each with the file and line of the
+/// top form that it came from (docs/LANGUAGE.md, "Macros"). Definitions are gone, and a `begin`
+/// is split into its elements. A description is refused with the first of the faults E201 to E207
+/// and E307 in the order of expansion, at the top form where it comes (docs/REFUSALS.md).
+pub fn expand(alloc: Global, forms: &Forms) -> Result<Forms, Stop>
+    ensures { meant.Expands forms.now result }
+{
+    let mut macros = List::new(alloc);
+    let mut left = BUDGET;
+    let mut tops = List::new(alloc);
+    for top in forms.tops.as_slice() {
+        let outcome = expand_top(alloc, &mut macros, &mut left, top);
+        let parts = stopped(alloc, outcome, top)?;
+        place(parts, top, &mut tops)?;
+    }
+    Ok(Forms { tops })
+}
+
+/// What came of a top form; a fault stops with its refusal.
+fn stopped(alloc: Global, outcome: Result<List<Form>, Halt>, top: &Top) -> Result<List<Form>, Stop>
+    ensures { result ≡ meant.stopped top.now outcome }
+{
+    match outcome {
+        Ok(forms) => Ok(forms),
+        Err(Halt::Faulty(fault)) => {
+            let Fault { number, text } = fault;
+            Err(Stop::Refused(Refusal {
+                number,
+                file: top.file,
+                line: top.line,
+                text,
+                other: Text::new(alloc),
+            }))
+        }
+        Err(Halt::NoMemory) => Err(Stop::NoMemory),
+    }
+}
+
+/// Puts forms, each with the place of the top form that it came from, behind what is done.
+fn place(forms: List<Form>, top: &Top, tops: &mut List<Top>) -> Result<(), NoMemory>
+    ensures { OnOk result (tops.new ≡ tops.old ++ map (meant.placed top.now) forms) }
+{
+    for form in forms.into_vec() {
+        tops.push(Top {
+            form,
+            file: top.file,
+            line: top.line,
+        })?;
+    }
+    Ok(())
+}
+
+/// The forms that a top form stands for.
+fn expand_top(
+    alloc: Global,
+    macros: &mut List<Macro>,
+    left: &mut u64,
+    top: &Top,
+) -> Result<List<Form>, Halt>
+    ensures { meant.GivesTop (meant.topped (plain_of top.now.form) (meant.state macros.old left.old)) result macros.new left.new }
+{
+    let body = plain(alloc, &top.form)?;
+    let depth = levels(&body)?;
+    Ok(expand_part(alloc, depth, macros, left, &body)?)
+}
+
+/// The forms that a top form as read stands for.
+#[cycle(tops)]
+#[tactic(auto, using(crate::proofs::TopRules::top_rules))]
+fn expand_part(
+    alloc: Global,
+    depth: u64,
+    macros: &mut List<Macro>,
+    left: &mut u64,
+    body: &Body,
+) -> Result<List<Form>, Halt>
+    ensures { meant.GivesTop (meant.top_to depth body.now (meant.state macros.old left.old)) result macros.new left.new }
+{
+    let Some(items) = elements(body) else {
+        return Ok(expand_result(alloc, macros, left, body)?);
+    };
+    let head = head_name(items);
+    if is_named(b"begin", head) {
+        if depth == 0 {
+            return Ok(List::new(alloc));
+        }
+        return Ok(expand_parts(alloc, depth - 1, macros, left, items)?);
+    }
+    if is_named(b"define-pmacro", head) {
+        let new = definition(alloc, macros.as_slice(), items)?;
+        macros.push(new)?;
+        return Ok(List::new(alloc));
+    }
+    if is_named(b"include", head) {
+        return Err(faulty(alloc, 307, b"include"));
+    }
+    Ok(expand_result(alloc, macros, left, body)?)
+}
+
+/// The forms that the elements of a `begin` stand for.
+#[cycle(tops)]
+#[tactic(auto, using(crate::proofs::TopRules::top_rules))]
+fn expand_parts(
+    alloc: Global,
+    depth: u64,
+    macros: &mut List<Macro>,
+    left: &mut u64,
+    items: &[Body],
+) -> Result<List<Form>, Halt>
+    ensures { meant.GivesTop (meant.top_each (meant.top_to depth) [] (drop 1 items.now) (meant.state macros.old left.old)) result macros.new left.new }
+{
+    let mut done = List::new(alloc);
+    for item in behind_head(items) {
+        let parts = expand_part(alloc, depth, macros, left, item)?;
+        append(&mut done, parts)?;
+    }
+    Ok(done)
+}
+
+fn behind_head(items: &[Body]) -> &[Body]
+    ensures { result.now ≡ drop 1 items.now }
+{
+    if items.is_empty() { items } else { &items[1..] }
+}
+
+/// Puts forms behind what is done.
+fn append(done: &mut List<Form>, parts: List<Form>) -> Result<(), NoMemory>
+    ensures { OnOk result (done.new ≡ done.old ++ parts) }
+{
+    for part in parts.into_vec() {
+        done.push(part)?;
+    }
+    Ok(())
+}
+
+/// The forms that an expansion's result stands for.
+fn expand_result(
+    alloc: Global,
+    macros: &List<Macro>,
+    left: &mut u64,
+    body: &Body,
+) -> Result<List<Form>, Halt>
+    ensures { meant.GivesTop (meant.top_expanded body.now (meant.state macros.now left.old)) result macros.now left.new }
+{
+    let value = expand_form(alloc, macros.as_slice(), DEPTH, b"", false, body, left)?;
+    let depth = form_depth(value.form())?;
+    Ok(split(alloc, depth, value.form())?)
+}
+
+/// The forms that a form which an expansion gave stands for.
+#[cycle(splitting)]
+#[tactic(auto, using(crate::proofs::TopRules::top_rules))]
+fn split(alloc: Global, depth: u64, form: &Form) -> Result<List<Form>, Halt>
+    ensures { Answers (meant.split_to depth form.now) result }
+{
+    let head = form_head(form);
+    if is_named(b"begin", head) {
+        if depth == 0 {
+            return Ok(List::new(alloc));
+        }
+        return Ok(split_parts(alloc, depth - 1, form)?);
+    }
+    if is_named(b"include", head) {
+        return Err(faulty(alloc, 307, b"include"));
+    }
+    if is_named(b"define-pmacro", head) {
+        return Err(faulty(alloc, 307, b"define-pmacro"));
+    }
+    let mut done = List::new(alloc);
+    done.push(form.clone()?)?;
+    Ok(done)
+}
+
+#[cycle(splitting)]
+#[tactic(auto, using(crate::proofs::TopRules::top_rules))]
+fn split_parts(alloc: Global, depth: u64, form: &Form) -> Result<List<Form>, Halt>
+    ensures { Answers (meant.split_each (meant.split_to depth) [] (meant.behind_head form.now)) result }
+{
+    let mut done = List::new(alloc);
+    for item in form_behind_head(form) {
+        let parts = split(alloc, depth, item)?;
+        append(&mut done, parts)?;
+    }
+    Ok(done)
+}
+
+fn form_behind_head(form: &Form) -> &[Form]
+    ensures { result.now ≡ meant.behind_head form.now }
+{
+    match form_elements(form) {
+        Some(items) => { if items.is_empty() { items } else { &items[1..] } }
+        None => &[],
+    }
+}
+
+fn form_head(form: &Form) -> Option<&Text>
+    ensures { option_copied result ≡ meant.form_head form.now }
+{
+    match form_elements(form) {
+        Some([]) => None,
+        Some([head, ..]) => form_symbol(head),
+        None => None,
+    }
+}
+
+/// The macro of a definition.
+fn definition(alloc: Global, macros: &[Macro], items: &[Body]) -> Result<Macro, Halt>
+    ensures { Answers (meant.definition macros.now items.now) result }
+{
+    match items {
+        [_, named, body] => Ok(define(alloc, macros, named, body)?),
+        [_, named, note, body] => {
+            if is_list(named) && is_string(note) {
+                Ok(define(alloc, macros, named, body)?)
+            } else {
+                Err(misdefined(alloc, defined_name(named)))
+            }
+        }
+        [_, named, ..] => Err(misdefined(alloc, defined_name(named))),
+        _ => Err(misdefined(alloc, None)),
+    }
+}
+
+fn is_string(body: &Body) -> bool
+    ensures { result ≡ meant.is_string body.now }
+{
+    matches!(body, Body::Str(_))
+}
+
+fn misdefined(alloc: Global, name: Option<&Text>) -> Halt
+    ensures { IsHalt (fault 202 (meant.name_or_word (option_copied name.entry))) result }
+{
+    match name {
+        Some(name) => faulty(alloc, 202, name.as_slice()),
+        None => faulty(alloc, 202, b"define-pmacro"),
+    }
+}
+
+/// The name in the second place of a definition.
+fn defined_name(named: &Body) -> Option<&Text>
+    ensures { option_copied result ≡ meant.defined_name named.now }
+{
+    match elements(named) {
+        Some([]) => None,
+        Some([name, ..]) => own_symbol(name),
+        None => own_symbol(named),
+    }
+}
+
+fn define(alloc: Global, macros: &[Macro], named: &Body, body: &Body) -> Result<Macro, Halt>
+    ensures { Answers (meant.defined_as macros.now named.now body.now) result }
+{
+    let Some(name) = defined_name(named) else {
+        return Err(misdefined(alloc, None));
+    };
+    if macro_named(macros, name.as_slice()).is_some() || begins_with_dot(name.as_slice()) {
+        return Err(faulty(alloc, 206, name.as_slice()));
+    }
+    Ok(macro_of(alloc, name, named, body)?)
+}
+
+fn macro_of(alloc: Global, name: &Text, named: &Body, body: &Body) -> Result<Macro, Halt>
+    ensures { Answers (meant.macro_of name.now named.now body.now) result }
+{
+    match elements(named) {
+        Some(items) => match names_of(alloc, behind_head(items))? {
+            Some(names) => Ok(Macro {
+                name: name.clone()?,
+                formals: Some(names),
+                body: copy(alloc, body)?,
+            }),
+            None => Err(faulty(alloc, 202, name.as_slice())),
+        },
+        None => Ok(Macro {
+            name: name.clone()?,
+            formals: None,
+            body: copy(alloc, body)?,
+        }),
+    }
+}
