@@ -10,6 +10,8 @@ mod fault;
 mod replacing;
 mod shapes;
 mod sizes;
+#[cfg(test)]
+mod tests;
 mod texts;
 mod tops;
 mod value;
