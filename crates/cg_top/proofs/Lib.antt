@@ -1,5 +1,7 @@
 pub mod ShapeLemmas
 pub mod AskingLemmas
-pub mod FetchingLemmas
+pub mod ShortForms
+pub mod GatheringLemmas
+pub mod OneReading
 pub mod AnswerLemmas
 pub mod RowLemmas

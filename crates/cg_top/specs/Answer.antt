@@ -2,7 +2,7 @@
 use Rattle.std.specs.Prelude.{◌≡◌, ℕ, List, Option, MatchOption}
 use Rattle.cg_io.specs.Held.{Held}
 use Rattle.cg_top.specs.declared.asking.Asked.{Asked}
-use Rattle.cg_top.specs.declared.fetching.Fetched.{Fetched}
+use Rattle.cg_top.specs.declared.gathering.Fetched.{Fetched}
 use Rattle.cg_top.specs.declared.replies.Reply.{Reply}
 use Rattle.cg_top.specs.Asking.{asked}
 use Rattle.cg_top.specs.Fetching.{IsFetched}

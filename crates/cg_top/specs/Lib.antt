@@ -5,6 +5,8 @@ pub mod Gives
 pub mod Thin
 pub mod Matching
 pub mod Loading
+pub mod Including
+pub mod Gathering
 pub mod Fetching
 pub mod Replies
 pub mod Answer

@@ -4,6 +4,7 @@ use Rattle.cg_base.specs.declared.form.Forms.{Forms}
 use Rattle.cg_base.specs.declared.refusal.Refusal.{Refusal}
 use Rattle.cg_base.specs.declared.refusal.Stop.{Stop}
 use Rattle.cg_base.specs.declared.refusal.Stop.TheVariants.{Refused, NoMemory}
+use Rattle.cg_pmacro.specs.Tops.{expansion}
 use Rattle.cg_top.specs.declared.machine.Machine.{Machine}
 use Rattle.cg_top.specs.Shape.{same}
 use Rattle.cg_top.specs.Thin.{thin}
@@ -23,9 +24,13 @@ abbrev pub called_so : List ℕ → Option Machine → Result Machine Refusal
 called_so name None = Err not_thin
 called_so name (Some machine) = called machine name
 
--- The machine NAME that the forms describe, or why there is none.
+abbrev pub described_by : List ℕ → Result Forms Refusal → Result Machine Refusal
+described_by name (Ok forms) = called_so name (thin forms.tops)
+described_by name (Err refusal) = Err refusal
+
+-- The machine NAME that the forms describe once their macros are expanded, or why there is none.
 abbrev pub loaded : Forms → List ℕ → Result Machine Refusal
-loaded forms name = called_so name (thin forms.tops)
+loaded forms name = described_by name (expansion forms)
 
 -- What is answered is this. Memory may run out.
 abbrev pub Loads : Result Machine Stop → Result Machine Refusal → Type 0

@@ -1,13 +1,14 @@
 -- What is printed, and with which status.
-use Rattle.std.specs.Prelude.{◌≡◌, ℕ, List, [], ◌∷◌, ◌++◌, Result, Ok, Err, codes, pos}
+use Rattle.std.specs.Prelude.{◌≡◌, ℕ, List, [], ◌∷◌, ◌++◌, slice_get, Option, Some, None, Result, Ok, Err, codes, pos}
+use Rattle.std.specs.Option.{unwrap_or}
 use Rattle.std.specs.Fmt.{signed_decimal}
 use Rattle.cg_base.specs.declared.form.Forms.{Forms}
 use Rattle.cg_base.specs.declared.refusal.Refusal.{Refusal}
 use Rattle.cg_top.specs.declared.asking.Asked.{Asked}
 use Rattle.cg_top.specs.declared.asking.Command.{Command}
 use Rattle.cg_top.specs.declared.asking.Command.TheVariants.{Decode}
-use Rattle.cg_top.specs.declared.fetching.Fetched.{Fetched}
-use Rattle.cg_top.specs.declared.fetching.Fetched.TheVariants.{Read, Refused, Unread}
+use Rattle.cg_top.specs.declared.gathering.Fetched.{Fetched}
+use Rattle.cg_top.specs.declared.gathering.Fetched.TheVariants.{Read, Refused, Unread}
 use Rattle.cg_top.specs.declared.machine.Machine.{Machine}
 use Rattle.cg_top.specs.declared.replies.Reply.{Reply}
 use Rattle.cg_top.specs.Loading.{loaded}
@@ -32,9 +33,13 @@ refusal_line name refusal =
     codes "E" ++ decimal_of refusal.number ++ codes " " ++ name ++ codes ":" ++ decimal_of refusal.line ++ codes " " ++ refusal.text
     ++ behind_blank refusal.other ++ codes "\n"
 
--- A refusal is one line, with status 1.
-abbrev pub refused : List ℕ → Refusal → Reply
-refused name refusal = reply 1 (refusal_line name refusal ∷ [])
+-- The name of a description's file by its number, the description's own being the first.
+abbrev pub name_of : List ℕ → List (List ℕ) → ℕ → List ℕ
+name_of desc names file = unwrap_or (slice_get names file) desc
+
+-- A refusal is one line, with status 1. It has the name of the file that it speaks of.
+abbrev pub refused : List ℕ → List (List ℕ) → Refusal → Reply
+refused desc names refusal = reply 1 (refusal_line (name_of desc names refusal.file) refusal ∷ [])
 
 -- A file that can't be read is one line, with status 3.
 abbrev pub cannot_read : List ℕ → Reply
@@ -48,16 +53,16 @@ bad_words = reply 2 (codes "bad words\n" ∷ [])
 abbrev pub performed : Command → Machine → Reply
 performed (Decode bytes) machine = reply 0 (decoded machine bytes)
 
-abbrev pub performed_on : Asked → Result Machine Refusal → Reply
-performed_on asked (Ok machine) = performed asked.command machine
-performed_on asked (Err refusal) = refused asked.desc refusal
+abbrev pub performed_on : Asked → List (List ℕ) → Result Machine Refusal → Reply
+performed_on asked names (Ok machine) = performed asked.command machine
+performed_on asked names (Err refusal) = refused asked.desc names refusal
 
--- What is answered where the description has these forms.
-abbrev pub described : Asked → Forms → Reply
-described asked forms = performed_on asked (loaded forms asked.mach)
+-- What is answered where the description has these forms, from files of these names.
+abbrev pub described : Asked → Forms → List (List ℕ) → Reply
+described asked forms names = performed_on asked names (loaded forms asked.mach)
 
 -- What is answered by what reading the description gave.
 abbrev pub reply_to : Asked → Fetched → Reply
-reply_to asked (Read forms) = described asked forms
-reply_to asked (Refused refusal) = refused asked.desc refusal
+reply_to asked (Read forms names) = described asked forms names
+reply_to asked (Refused refusal names) = refused asked.desc names refusal
 reply_to asked (Unread name) = cannot_read name

@@ -4,7 +4,7 @@ use Rattle.cg_io.specs.Held.{Held, appended}
 use Rattle.cg_top.specs.declared.asking.Asked.{Asked}
 use Rattle.cg_top.specs.declared.replies.Reply.{Reply}
 use Rattle.cg_top.specs.Asking.{asked}
-use Rattle.cg_top.specs.Fetching.{IsLacking}
+use Rattle.cg_top.specs.Fetching.{IsUnreadable}
 use Rattle.cg_top.specs.Answer.{Answer}
 
 -- One line behind the other.
@@ -19,6 +19,6 @@ pub record IsAnswered (words : List (List ℕ)) (held : Option Held) (status : �
   pub same_status : status ≡ reply.status
   pub written : after ≡ appended before (text_of reply.lines)
 
--- The words ask for a file that is lacking or too long.
+-- The words ask for a description of which a file is lacking or too long.
 abbrev pub IsUnread : List (List ℕ) → Option Held → Type 0
-IsUnread words held = MatchOption (asked words) ⊥ (λ it. IsLacking held it.desc)
+IsUnread words held = MatchOption (asked words) ⊥ (λ it. IsUnreadable it.desc held)

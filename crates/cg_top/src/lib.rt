@@ -3,12 +3,15 @@
 
 mod asking;
 mod fetching;
+mod gathering;
+mod including;
 mod laws;
 mod loading;
 mod machine;
 mod matching;
 mod misfit;
 mod names;
+mod pending;
 mod replies;
 mod shape;
 mod thin;

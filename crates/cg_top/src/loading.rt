@@ -5,6 +5,7 @@ use crate::machine::Machine;
 use crate::misfit::Misfit;
 use crate::thin::thin_machine;
 use cg_base::{Forms, NoMemory, Refusal, Stop, Text};
+use cg_pmacro::expand;
 use std::alloc::Global;
 
 /// `E301`: the forms aren't of the thin shape.
@@ -44,12 +45,14 @@ fn called(alloc: Global, machine: Machine, name: &Text) -> Result<Machine, Stop>
     }
 }
 
-/// The machine of this name that the forms describe (docs/REFUSALS.md: E301 where they aren't of
-/// the thin shape, E318 where they are and describe another machine).
+/// The machine of this name that the forms describe once their macros are expanded
+/// (docs/REFUSALS.md: the faults of expansion, E301 where the expanded forms aren't of the thin
+/// shape, E318 where they are and describe another machine).
 pub fn load(alloc: Global, forms: &Forms, name: &Text) -> Result<Machine, Stop>
     ensures { Loads result (loaded forms.now name.now) }
 {
-    match thin_machine(alloc, forms.tops.as_slice()) {
+    let expanded = expand(alloc, forms)?;
+    match thin_machine(alloc, expanded.tops.as_slice()) {
         Ok(machine) => called(alloc, machine, name),
         Err(Misfit::Shape) => Err(Stop::Refused(not_thin(alloc)?)),
         Err(Misfit::NoMemory) => Err(Stop::NoMemory),

@@ -1,10 +1,11 @@
 ghost use Rattle.std.specs.Prelude.{◌≡◌, ◌≤◌, IfOk, OnOk, ◌++◌, ◌∷◌, []};
 ghost use Rattle.cg_io.specs.Causes.{Rose};
-ghost use Rattle.cg_top.specs.Replies.{reply, decimal_of, behind_blank, refusal_line, refused, cannot_read, bad_words, performed, described, reply_to};
+ghost use Rattle.cg_top.specs.Replies.{reply, decimal_of, behind_blank, refusal_line, name_of, refused, cannot_read, bad_words, performed, described, reply_to};
 ghost use Rattle.cg_top.specs.Answer.{Answer, Answers};
 
 use crate::asking::{Asked, Command, ask_of};
-use crate::fetching::{Fetched, fetch};
+use crate::fetching::fetch;
+use crate::gathering::Fetched;
 use crate::loading::load;
 use crate::machine::Machine;
 use crate::matching::decode;
@@ -68,10 +69,26 @@ fn refusal_line(alloc: Global, name: &Text, refusal: &Refusal) -> Result<Text, N
     Ok(line)
 }
 
-fn refused(alloc: Global, name: &Text, refusal: &Refusal) -> Result<Reply, NoMemory>
-    ensures { IfOk result (λ answer. answer ≡ refused name.now refusal.now) }
+/// The name of a description's file by its number, and that of the description where there is
+/// none of that number.
+fn name_of<'a>(desc: &'a Text, names: &'a List<Text>, file: u16) -> &'a Text
+    ensures { result.now ≡ name_of desc.now names.now file }
 {
-    let line = refusal_line(alloc, name, refusal)?;
+    match names.get(usize::from(file)) {
+        Some(name) => name,
+        None => desc,
+    }
+}
+
+fn refused(
+    alloc: Global,
+    desc: &Text,
+    names: &List<Text>,
+    refusal: &Refusal,
+) -> Result<Reply, NoMemory>
+    ensures { IfOk result (λ answer. answer ≡ refused desc.now names.now refusal.now) }
+{
+    let line = refusal_line(alloc, name_of(desc, names, refusal.file), refusal)?;
     one_line(alloc, 1, line)
 }
 
@@ -103,13 +120,18 @@ fn perform(alloc: Global, command: &Command, machine: &Machine) -> Result<Reply,
     }
 }
 
-/// What is answered where the description has these forms.
-fn describe(alloc: Global, asked: &Asked, forms: &Forms) -> Result<Reply, NoMemory>
-    ensures { IfOk result (λ answer. answer ≡ described asked.now forms.now) }
+/// What is answered where the description has these forms, from files of these names.
+fn describe(
+    alloc: Global,
+    asked: &Asked,
+    forms: &Forms,
+    names: &List<Text>,
+) -> Result<Reply, NoMemory>
+    ensures { IfOk result (λ answer. answer ≡ described asked.now forms.now names.now) }
 {
     match load(alloc, forms, &asked.mach) {
         Ok(machine) => perform(alloc, &asked.command, &machine),
-        Err(Stop::Refused(refusal)) => refused(alloc, &asked.desc, &refusal),
+        Err(Stop::Refused(refusal)) => refused(alloc, &asked.desc, names, &refusal),
         Err(Stop::NoMemory) => Err(NoMemory),
     }
 }
@@ -119,8 +141,8 @@ fn reply_to(alloc: Global, asked: &Asked, fetched: &Fetched) -> Result<Reply, No
     ensures { IfOk result (λ answer. answer ≡ reply_to asked.now fetched.now) }
 {
     match fetched {
-        Fetched::Read(forms) => describe(alloc, asked, forms),
-        Fetched::Refused(refusal) => refused(alloc, &asked.desc, refusal),
+        Fetched::Read(forms, names) => describe(alloc, asked, forms, names),
+        Fetched::Refused(refusal, names) => refused(alloc, &asked.desc, names, refusal),
         Fetched::Unread(name) => cannot_read(alloc, name),
     }
 }

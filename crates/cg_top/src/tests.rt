@@ -183,6 +183,162 @@ fn descriptions_are_judged(rt: HostRuntime) -> Result<(), Fail> {
     Ok(())
 }
 
+/// A file of a description: its name and its text.
+struct Source {
+    name: &'static [u8],
+    text: &'static [u8],
+}
+
+/// Files, and what `decode a.cpu tiny 1120` is answered over them.
+struct Case {
+    files: &'static [Source],
+    status: u8,
+    text: &'static [u8],
+}
+
+/// The frame of a machine, in a file of its own.
+const FRAME: Source = Source {
+    name: b"frame.cpu",
+    text: b"(define-arch (name tiny) (machs tiny) (isas tiny))
+(define-isa (name tiny) (base-insn-bitsize 16))
+(define-cpu (name tinyc) (endian big) (word-bitsize 32))
+(define-mach (name tiny) (cpu tinyc))",
+};
+
+/// What the files of a description give together.
+static GATHERED: [Case; 9] = [
+    Case {
+        files: &[
+            FRAME,
+            Source {
+                name: b"a.cpu",
+                text: b"(include \"frame.cpu\") (include \"fields.cpu\")
+(dni add \"\" () \"\" (+ (f-op 1) f-rest) (nop) ())",
+            },
+            Source {
+                name: b"fields.cpu",
+                text: b"(include \"simplify.inc\") (dnf f-op \"\" () 0 4) (include \"rest.cpu\")",
+            },
+            Source {
+                name: b"rest.cpu",
+                text: b"(include \"simplify.inc\") (dnf f-rest \"\" () 4 12)",
+            },
+        ],
+        status: 0,
+        text: b"add f-rest=288\n",
+    },
+    Case {
+        files: &[Source {
+            name: b"a.cpu",
+            text: b"(include \"no.cpu\")",
+        }],
+        status: 3,
+        text: b"cannot read no.cpu\n",
+    },
+    // A file's text is read whole before its includes, and an include with its own before the next.
+    Case {
+        files: &[Source {
+            name: b"a.cpu",
+            text: b"(include \"no.cpu\")\n)",
+        }],
+        status: 1,
+        text: b"E103 a.cpu:2 )\n",
+    },
+    Case {
+        files: &[
+            Source {
+                name: b"a.cpu",
+                text: b"(include \"b.cpu\") (include \"c.cpu\")",
+            },
+            Source {
+                name: b"b.cpu",
+                text: b"(include \"d.cpu\")",
+            },
+            Source {
+                name: b"c.cpu",
+                text: b")",
+            },
+            Source {
+                name: b"d.cpu",
+                text: b"\n\n(",
+            },
+        ],
+        status: 1,
+        text: b"E102 d.cpu:3 list\n",
+    },
+    // Each reading of a file has a number of its own, and the 65th include is refused.
+    Case {
+        files: &[Source {
+            name: b"a.cpu",
+            text: b"\n(include \"a.cpu\")",
+        }],
+        status: 1,
+        text: b"E106 a.cpu:2 a.cpu\n",
+    },
+    Case {
+        files: &[Source {
+            name: b"a.cpu",
+            text: b"(begin (include \"no.cpu\"))",
+        }],
+        status: 1,
+        text: b"E307 a.cpu:1 include\n",
+    },
+    Case {
+        files: &[
+            Source {
+                name: b"a.cpu",
+                text: b"(include \"b.cpu\")",
+            },
+            Source {
+                name: b"b.cpu",
+                text: b"(define-pmacro (g a) (.let ((t 1)) (.list a t)))
+(.error (.ref (g t) 0) \",\" (.ref (g t) 1))",
+            },
+        ],
+        status: 1,
+        text: b"E205 b.cpu:2 t,1\n",
+    },
+    Case {
+        files: &[Source {
+            name: b"a.cpu",
+            text: b"(define-pmacro (f) (f))\n(f)",
+        }],
+        status: 1,
+        text: b"E204 a.cpu:2 f\n",
+    },
+    Case {
+        files: &[Source {
+            name: b"a.cpu",
+            text: b"(.iota 4000000)",
+        }],
+        status: 1,
+        text: b"E203 a.cpu:1 4000000\n",
+    },
+];
+
+/// Whether the case's files are answered so.
+fn is_answered(alloc: Global, case: &Case) -> Result<bool, NoMemory> {
+    let mut entries = List::new(alloc);
+    for file in case.files {
+        entries.push(Entry {
+            name: Text::of(alloc, file.name)?,
+            bytes: Text::of(alloc, file.text)?,
+        })?;
+    }
+    let mut files = MemFiles::new(alloc, entries, List::new(alloc))?;
+    let (status, text) = answer(alloc, b"decode a.cpu tiny 1120", &mut files, &[])?;
+    Ok(status == case.status && text.as_slice() == case.text)
+}
+
+#[test]
+fn files_come_together(rt: HostRuntime) -> Result<(), Fail> {
+    let alloc = rt.alloc();
+    for case in &GATHERED {
+        assert!(rt; is_answered(alloc, case)?);
+    }
+    Ok(())
+}
+
 /// The status, and whether this text was written, over T0 with a twin where the calls of the
 /// files and the puts with these numbers fail.
 fn faulty(
