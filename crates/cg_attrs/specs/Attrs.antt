@@ -10,7 +10,8 @@ use Rattle.cg_attrs.specs.declared.attr.AttrValue.{AttrValue}
 use Rattle.cg_attrs.specs.declared.attr.AttrValue.TheVariants as value
 use Rattle.cg_attrs.specs.declared.attr.Said.{Said}
 use Rattle.cg_attrs.specs.declared.attr.Said.TheVariants as said
-use Rattle.cg_attrs.specs.Parts.{◌>>=◌, Layer, symbol_of, items_of, is_symbol, headed, only, is_among}
+use Rattle.cg_base.specs.Parts.{◌>>=◌, Layer, symbol_of, elements_of, is_symbol, Headed, headed, only}
+use Rattle.cg_attrs.specs.Tests.{is_among}
 
 -- the attributes whose value is a set of names
 abbrev pub is_bitset : List ℕ → Bool
@@ -73,20 +74,19 @@ given name values =
     else if list_all is_symbol values then (if is_known_flag name then None else Some (record { name = name; value = named name (words values) }))
     else only values >>= single name
 
-abbrev pub given_behind : List ℕ × List Form → Option Attr
+abbrev pub given_behind : Headed → Option Attr
 given_behind x = given x.0 x.1
 
-unfoldable pub given_in : List Form → Option Attr
-given_in fs = headed fs >>= given_behind
+unfoldable pub given_in : Form → Option Attr
+given_in f = headed f >>= given_behind
 
--- The attribute that a form is, if it is one.
-abbrev pub attr_in : Layer → Option Attr
-attr_in (Symbol s) = bare s
-attr_in (Items fs) = given_in fs
-attr_in _ = None
+-- The attribute that a form is, if it is one: a symbol, or a list headed by one.
+abbrev pub attr_by : Form → Option (List ℕ) → Option Attr
+attr_by f (Some s) = bare s
+attr_by f None = given_in f
 
 abbrev pub attr_of : Form → Option Attr
-attr_of f = attr_in (out-Form f)
+attr_of f = attr_by f (symbol_of f)
 
 abbrev pub is_attr : Form → Bool
 is_attr f = is_some (attr_of f)
@@ -105,7 +105,7 @@ abbrev pub all_attrs : List Form → Option (List Form)
 all_attrs fs = if list_all is_attr fs then Some fs else None
 
 unfoldable pub attributes_of : Form → Option (List Form)
-attributes_of f = items_of f >>= all_attrs
+attributes_of f = elements_of f >>= all_attrs
 
 -- The attributes of a list of them.
 abbrev pub attrs_of : Form → Option (List Attr)

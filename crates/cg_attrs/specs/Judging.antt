@@ -11,15 +11,11 @@ use Rattle.cg_attrs.specs.declared.content.Content.{Content}
 use Rattle.cg_attrs.specs.declared.fault.Fault as declared
 use Rattle.cg_attrs.specs.declared.table.Kind.{Kind}
 use Rattle.cg_attrs.specs.declared.table.Kind.TheVariants as kind
-use Rattle.cg_attrs.specs.Parts.{◌>>=◌, clause_of}
+use Rattle.cg_base.specs.Parts.{◌>>=◌, Headed, headed}
 use Rattle.cg_attrs.specs.Clauses.{Row, standing, misplaced, absent}
 use Rattle.cg_attrs.specs.Contents.{fits, left_out_content, fits_argument}
 use Rattle.cg_attrs.specs.Faults.{seen_fault, least}
 use Rattle.cg_attrs.specs.Tables.{kind_named, rows_of}
-
--- a list that a symbol heads: that symbol, and the elements behind it
-abbrev pub Headed : Type 0
-Headed = List ℕ × List Form
 
 -- E304: the names of the clauses whose content isn't of its kind.
 abbrev pub wrong_in : Row Content × List Form → Option (List ℕ)
@@ -51,7 +47,7 @@ heading_in None = codes "clause"
 heading_in (Some x) = x.0
 
 abbrev pub heading : Form → List ℕ
-heading f = heading_in (clause_of f)
+heading f = heading_in (headed f)
 
 abbrev pub extra : List (Row Content) → List Form → List (List ℕ)
 extra [] fs = map heading fs
@@ -133,7 +129,7 @@ abbrev pub faults_as : Option Headed → List (ℕ × List (List ℕ))
 faults_as f = (301, texts_301 f) ∷ (302, texts_302 f) ∷ (303, texts_303 f) ∷ (304, texts_304 f) ∷ (307, texts_307 f) ∷ []
 
 abbrev pub frame_faults : Form → List (ℕ × List (List ℕ))
-frame_faults f = faults_as (clause_of f)
+frame_faults f = faults_as (headed f)
 
 -- The same of the clauses of a form, of arguments by their places, and of the elements behind a head.
 abbrev pub clause_faults : List (Row Content) → List Form → List (ℕ × List (List ℕ))

@@ -5,7 +5,7 @@ use Rattle.std.specs.Option.{option_map, unwrap_or}
 use Rattle.cg_base.specs.declared.form.Form.{Form}
 use Rattle.cg_base.specs.declared.form.Form.TheVariants.{Items}
 use Rattle.cg_attrs.specs.declared.attr.Attr.{Attr}
-use Rattle.cg_attrs.specs.Parts.{◌>>=◌, symbol_of, only_symbol, only_word, only_flag, only_number}
+use Rattle.cg_base.specs.Parts.{◌>>=◌, symbol_of, only_symbol, only_word, only_flag, only_number}
 use Rattle.cg_attrs.specs.Attrs.{attr_of}
 use Rattle.cg_attrs.specs.Clauses.{stands_as, content_of, content_at}
 

@@ -3,11 +3,12 @@
 ghost use Rattle.std.specs.Prelude.{◌≡◌, [], map, not};
 ghost use Rattle.std.specs.Option.{option_copied, option_map};
 ghost use Rattle.std.specs.List.{find, list_any};
-ghost use Rattle.cg_attrs.specs.Parts.{first, only_flag, passes};
+ghost use Rattle.cg_base.specs.Parts.{only_flag};
+ghost use Rattle.cg_attrs.specs.Tests.{passes};
+ghost use Rattle.cg_attrs.specs.Faults.{first};
 ghost use Rattle.cg_attrs.specs.Clauses.{seen, row_named, is_rule, counts_absent, stands_as, standing, content_of, content_at, may_stand, misplaced_at, misplaced, absent};
 
-use crate::parts::{clause, only_flag};
-use cg_base::Form;
+use cg_base::{Form, only_flag};
 
 /// What a clause is to its form (docs/LANGUAGE.md, "Forms and clauses").
 #[derive(Clone, Copy, Debug, PartialEq, Eq)]
@@ -80,7 +81,7 @@ fn counts_absent(name: &[u8], content: &[Form]) -> bool
 pub(crate) fn stands_as(form: &Form, name: &[u8]) -> bool
     ensures { result ≡ stands_as name.now form.now }
 {
-    match clause(form) {
+    match form.headed() {
         Some((head, content)) => head.as_slice() == name
             && !counts_absent(head.as_slice(), content),
         None => false,
@@ -103,7 +104,7 @@ pub(crate) fn standing<'a, C>(
 ) -> Option<(&'a Row<C>, &'a [Form])>
     ensures { option_map (λ x. (seen x.0.now, x.1.now)) result ≡ standing (map seen rows.now) form.now }
 {
-    let (name, content) = clause(form)?;
+    let (name, content) = form.headed()?;
     if counts_absent(name.as_slice(), content) {
         return None;
     }
@@ -122,7 +123,7 @@ fn first_clause<'a>(forms: &'a [Form], name: &[u8]) -> Option<&'a Form>
 pub(crate) fn content(form: &Form) -> Option<&[Form]>
     ensures { option_copied result ≡ content_of form.now }
 {
-    let (_, content) = clause(form)?;
+    let (_, content) = form.headed()?;
     Some(content)
 }
 
@@ -149,7 +150,7 @@ fn may_stand<C>(rows: &[Row<C>], before: &[Form], name: &[u8]) -> bool
 fn misplaced_at<'a, C>(rows: &[Row<C>], before: &[Form], form: &'a Form) -> Option<&'a [u8]>
     ensures { option_copied result ≡ misplaced_at (map seen rows.now) before.now form.now }
 {
-    match clause(form) {
+    match form.headed() {
         Some((name, content)) => {
             let name = name.as_slice();
             if counts_absent(name, content) || may_stand(rows, before, name) {

@@ -2,15 +2,14 @@
 
 ghost use Rattle.std.specs.Prelude.{◌≡◌, map, slice_get, Some};
 ghost use Rattle.std.specs.Option.{option_copied, option_map};
-ghost use Rattle.cg_attrs.specs.Parts.{first, clause_of};
+ghost use Rattle.cg_base.specs.Parts.{headed};
 ghost use Rattle.cg_attrs.specs.Clauses.{seen};
-ghost use Rattle.cg_attrs.specs.Faults.{seen_fault, least};
+ghost use Rattle.cg_attrs.specs.Faults.{first, seen_fault, least};
 ghost use Rattle.cg_attrs.specs.Judging.{wrong_at, wrong, left_out_at, left_out, heading, extra, missing, wrong_arguments, clause_faults, argument_faults, faults_of, Judged};
 
 use crate::clauses::{Role, Row, first_absent, first_misplaced, standing};
 use crate::content::{Content, fits, fits_argument, left_out_content};
 use crate::fault::Fault;
-use crate::parts::clause;
 use crate::table::{Kind, kind_named, rows_of};
 use cg_base::Form;
 
@@ -86,7 +85,7 @@ fn clause_fault<'a>(rows: &[Row<Content>], elements: &'a [Form]) -> Option<Fault
 fn heading(form: &Form) -> &[u8]
     ensures { result.now ≡ heading form.now }
 {
-    match clause(form) {
+    match form.headed() {
         Some((name, _)) => name.as_slice(),
         None => b"clause",
     }
@@ -187,9 +186,9 @@ fn judged_headed<'a>(head: &'a [u8], elements: &'a [Form]) -> Result<(Kind, &'a 
 /// Which form that frames a machine this is, and the elements behind its head, where it has no
 /// fault. Otherwise its least fault.
 pub(crate) fn judged(form: &Form) -> Result<(Kind, &[Form]), Fault<'_>>
-    ensures { Judged (clause_of form.now) result }
+    ensures { Judged (headed form.now) result }
 {
-    match clause(form) {
+    match form.headed() {
         Some((head, elements)) => judged_headed(head.as_slice(), elements),
         None => Err(Fault {
             number: 301,

@@ -8,7 +8,6 @@ mod fault;
 mod frame;
 mod judge;
 mod lookup;
-mod parts;
 mod read;
 mod table;
 #[cfg(test)]
