@@ -95,3 +95,32 @@ absent_at elements r = if is_wanted r.role && not (list_any (stands_as r.name) e
 
 abbrev pub absent : {C : Type 0} → List (Row C) → List Form → List (List ℕ)
 absent rows elements = filter_map (absent_at elements) rows
+
+-- E304: the names of the clauses whose content isn't of its kind.
+abbrev pub wrong_in : {C : Type 0} → (C → List Form → Bool) → Row C × List Form → Option (List ℕ)
+wrong_in fits x = if fits x.0.content x.1 then None else Some x.0.name
+
+unfoldable pub wrong_at : {C : Type 0} → (C → List Form → Bool) → List (Row C) → Form → Option (List ℕ)
+wrong_at fits rows f = standing rows f >>= wrong_in fits
+
+abbrev pub wrong : {C : Type 0} → (C → List Form → Bool) → List (Row C) → List Form → List (List ℕ)
+wrong fits rows elements = filter_map (wrong_at fits rows) elements
+
+-- E307: the names of the clauses that are left out, and what is left out of the content of others.
+abbrev pub is_left_out : Role → Bool
+is_left_out LeftOut = true
+is_left_out _ = false
+
+abbrev pub left_out_in : {C : Type 0} → (C → List Form → Option (List ℕ)) → Row C × List Form → Option (List ℕ)
+left_out_in leaves_out x = if is_left_out x.0.role then Some x.0.name else leaves_out x.0.content x.1
+
+unfoldable pub left_out_at : {C : Type 0} → (C → List Form → Option (List ℕ)) → List (Row C) → Form → Option (List ℕ)
+left_out_at leaves_out rows f = standing rows f >>= left_out_in leaves_out
+
+abbrev pub left_out : {C : Type 0} → (C → List Form → Option (List ℕ)) → List (Row C) → List Form → List (List ℕ)
+left_out leaves_out rows elements = filter_map (left_out_at leaves_out rows) elements
+
+-- The texts at fault under each number, of the elements behind the head of a form: a content is of its kind where it fits.
+abbrev pub clause_faults : {C : Type 0} → (C → List Form → Bool) → (C → List Form → Option (List ℕ)) → List (Row C) → List Form → List (ℕ × List (List ℕ))
+clause_faults fits leaves_out rows elements =
+    (302, misplaced rows [] elements) ∷ (303, absent rows elements) ∷ (304, wrong fits rows elements) ∷ (307, left_out leaves_out rows elements) ∷ []

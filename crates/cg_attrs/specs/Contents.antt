@@ -80,9 +80,9 @@ fits content.Anything fs = true
 abbrev pub either : List Form → Option (List ℕ)
 either fs = if passes (is_among (codes "either" ∷ [])) (only_symbol fs) then Some (codes "either") else None
 
-abbrev pub left_out_content : Content → List Form → Option (List ℕ)
-left_out_content content.Endian fs = either fs
-left_out_content _ fs = None
+abbrev pub leaves_out : Content → List Form → Option (List ℕ)
+leaves_out content.Endian fs = either fs
+leaves_out _ fs = None
 
 -- An argument that stands by its place is of its kind: attributes and items are in a list of their own.
 abbrev pub fits_argument : Content → Form → Bool

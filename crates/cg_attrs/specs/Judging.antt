@@ -12,34 +12,10 @@ use Rattle.cg_attrs.specs.declared.fault.Fault as declared
 use Rattle.cg_attrs.specs.declared.table.Kind.{Kind}
 use Rattle.cg_attrs.specs.declared.table.Kind.TheVariants as kind
 use Rattle.cg_base.specs.Parts.{◌>>=◌, Headed, headed}
-use Rattle.cg_attrs.specs.Clauses.{Row, standing, misplaced, absent}
-use Rattle.cg_attrs.specs.Contents.{fits, left_out_content, fits_argument}
+use Rattle.cg_attrs.specs.Clauses.{Row, misplaced, absent, wrong, left_out}
+use Rattle.cg_attrs.specs.Contents.{fits, leaves_out, fits_argument}
 use Rattle.cg_attrs.specs.Faults.{seen_fault, least}
 use Rattle.cg_attrs.specs.Tables.{kind_named, rows_of}
-
--- E304: the names of the clauses whose content isn't of its kind.
-abbrev pub wrong_in : Row Content × List Form → Option (List ℕ)
-wrong_in x = if fits x.0.content x.1 then None else Some x.0.name
-
-unfoldable pub wrong_at : List (Row Content) → Form → Option (List ℕ)
-wrong_at rows f = standing rows f >>= wrong_in
-
-abbrev pub wrong : List (Row Content) → List Form → List (List ℕ)
-wrong rows elements = filter_map (wrong_at rows) elements
-
--- E307: the names of the clauses that are left out, and what is left out of the content of others.
-abbrev pub is_left_out : Role → Bool
-is_left_out LeftOut = true
-is_left_out _ = false
-
-abbrev pub left_out_in : Row Content × List Form → Option (List ℕ)
-left_out_in x = if is_left_out x.0.role then Some x.0.name else left_out_content x.0.content x.1
-
-unfoldable pub left_out_at : List (Row Content) → Form → Option (List ℕ)
-left_out_at rows f = standing rows f >>= left_out_in
-
-abbrev pub left_out : List (Row Content) → List Form → List (List ℕ)
-left_out rows elements = filter_map (left_out_at rows) elements
 
 -- Where arguments stand by their places. E302: of each that has no row, the symbol that heads it, else `clause`.
 abbrev pub heading_in : Option Headed → List ℕ
@@ -80,11 +56,11 @@ absent_of k elements = absent (rows_of k) elements
 
 abbrev pub wrong_of : Kind → List Form → List (List ℕ)
 wrong_of kind.InsnEnum elements = wrong_arguments (rows_of kind.InsnEnum) elements
-wrong_of k elements = wrong (rows_of k) elements
+wrong_of k elements = wrong fits (rows_of k) elements
 
 abbrev pub left_out_of : Kind → List Form → List (List ℕ)
 left_out_of kind.InsnEnum elements = []
-left_out_of k elements = left_out (rows_of k) elements
+left_out_of k elements = left_out leaves_out (rows_of k) elements
 
 -- The texts at fault of a form that frames a machine; another has none of them.
 abbrev pub of_kind : (Kind → List Form → List (List ℕ)) → List Form → Option Kind → List (List ℕ)
@@ -131,11 +107,7 @@ faults_as f = (301, texts_301 f) ∷ (302, texts_302 f) ∷ (303, texts_303 f) �
 abbrev pub frame_faults : Form → List (ℕ × List (List ℕ))
 frame_faults f = faults_as (headed f)
 
--- The same of the clauses of a form, of arguments by their places, and of the elements behind a head.
-abbrev pub clause_faults : List (Row Content) → List Form → List (ℕ × List (List ℕ))
-clause_faults rows elements =
-    (302, misplaced rows [] elements) ∷ (303, absent rows elements) ∷ (304, wrong rows elements) ∷ (307, left_out rows elements) ∷ []
-
+-- The same of arguments by their places, and of the elements behind a head.
 abbrev pub argument_faults : List (Row Content) → List Form → List (ℕ × List (List ℕ))
 argument_faults rows arguments = (302, extra rows arguments) ∷ (303, missing rows arguments) ∷ (304, wrong_arguments rows arguments) ∷ []
 

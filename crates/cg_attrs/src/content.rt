@@ -4,9 +4,10 @@ ghost use Rattle.std.specs.Prelude.{◌≡◌, pos, Some};
 ghost use Rattle.std.specs.Option.{option_copied};
 ghost use Rattle.cg_base.specs.Parts.{only_symbol, only_natural};
 ghost use Rattle.cg_attrs.specs.Tests.{passes};
-ghost use Rattle.cg_attrs.specs.Contents.{is_alignment, is_endian, is_bit_size, is_word_size, is_positive, is_cycles, is_unit, is_item_name, valued, item_value, next_value, are_items, fits, either, left_out_content, fits_argument};
+ghost use Rattle.cg_attrs.specs.Contents.{is_alignment, is_endian, is_bit_size, is_word_size, is_positive, is_cycles, is_unit, is_item_name, valued, item_value, next_value, are_items, fits, either, leaves_out, fits_argument};
 
 use crate::attr::are_attrs;
+use crate::clauses::ContentKind;
 use cg_base::{Form, are_symbols, only_flag, only_natural, only_symbol, only_word};
 
 /// What has to stand behind a clause's name (docs/LANGUAGE.md, "Forms and clauses").
@@ -41,6 +42,22 @@ pub(crate) enum Content {
     Attributes,
     /// Anything.
     Anything,
+}
+
+impl ContentKind for Content {
+    ghost use Rattle.cg_attrs.specs.Contents as contents;
+
+    ghost fits = { contents.fits };
+
+    ghost leaves_out = { contents.leaves_out };
+
+    fn fits(&self, forms: &[Form]) -> bool {
+        fits(*self, forms)
+    }
+
+    fn leaves_out(&self, forms: &[Form]) -> Option<&'static [u8]> {
+        leaves_out(*self, forms)
+    }
 }
 
 /// Whether the text names what happens to accesses that are not aligned.
@@ -182,7 +199,7 @@ fn are_items(forms: &[Form]) -> bool
 
 /// Whether what stands behind a clause's name is of its kind. `either` of an endian is, and is
 /// left out.
-pub(crate) fn fits(content: Content, forms: &[Form]) -> bool
+fn fits(content: Content, forms: &[Form]) -> bool
     ensures { result ≡ fits content forms.now }
 {
     match content {
@@ -203,8 +220,8 @@ pub(crate) fn fits(content: Content, forms: &[Form]) -> bool
 }
 
 /// What is left out of what stands behind a clause's name: `either` of an endian.
-pub(crate) fn left_out_content(content: Content, forms: &[Form]) -> Option<&'static [u8]>
-    ensures { option_copied result ≡ left_out_content content forms.now }
+fn leaves_out(content: Content, forms: &[Form]) -> Option<&'static [u8]>
+    ensures { option_copied result ≡ leaves_out content forms.now }
 {
     match content {
         Content::Endian => either(forms),

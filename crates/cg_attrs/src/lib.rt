@@ -14,8 +14,11 @@ mod table;
 mod tests;
 
 pub use attr::{Attr, AttrValue, read_attrs};
+pub use clauses::{ContentKind, Role, Row, clause_fault, content_at};
+pub use fault::{Fault, refusal};
 pub use frame::{
     ArchForm, AttrForm, CpuForm, EnumForm, Frame, InsnEnumForm, IsaForm, KeywordForm, MachForm,
     ModelForm,
 };
+pub use lookup::attrs_at;
 pub use read::read_frame;

@@ -173,8 +173,10 @@ pub(crate) fn optional_form(
     }
 }
 
-/// The attributes of a form, none where its clause is absent.
-pub(crate) fn attrs_at(alloc: Global, elements: &[Form]) -> Result<List<Attr>, NoMemory>
+/// What the clause `attrs` among the elements behind a form's head says: attributes, and none
+/// where it is absent. An element of the clause that is no attribute is left out, which is E304
+/// of the form.
+pub fn attrs_at(alloc: Global, elements: &[Form]) -> Result<List<Attr>, NoMemory>
     ensures { IfOk result (λ attrs. attrs ≡ attrs_at elements.now) }
 {
     attrs_among(alloc, content_or_none(elements, b"attrs"))
