@@ -1,11 +1,11 @@
 -- The clauses of a form, by a table that has a row for each.
-use Rattle.std.specs.Prelude.{◌≡◌, ℕ, Bool, true, false, not, ◌&&◌, ◌||◌, ◌==◌, nat_eq, if◌then◌else◌, List, [], ◌∷◌, ◌++◌, length, Option, Some, None, codes}
+use Rattle.std.specs.Prelude.{ℕ, Bool, true, false, not, ◌&&◌, ◌||◌, ◌==◌, nat_eq, if◌then◌else◌, List, [], ◌∷◌, ◌++◌, length, Option, Some, None, codes}
 use Rattle.std.specs.List.{find, list_any, filter_map, cons_option}
 use Rattle.std.specs.Cmp.Lexicographic.{pointwise}
 use Rattle.cg_base.specs.declared.form.Form.{Form}
 use Rattle.cg_attrs.specs.declared.clauses.Row as declared
 use Rattle.cg_attrs.specs.declared.clauses.Role.{Role}
-use Rattle.cg_attrs.specs.declared.clauses.Role.TheVariants.{Wanted, Optional, Repeated, Plain, LeftOut}
+use Rattle.cg_attrs.specs.declared.clauses.Role.TheVariants.{Wanted, Repeated, LeftOut}
 use Rattle.cg_base.specs.Parts.{◌>>=◌, Headed, headed, only_flag}
 use Rattle.cg_attrs.specs.Tests.{is_among, passes}
 

@@ -1,11 +1,11 @@
 -- What may stand behind the name of a clause.
-use Rattle.std.specs.Prelude.{◌≡◌, ℕ, ℤ, pos, ◌+ℤ◌, ◌%◌, Bool, true, false, ◌&&◌, ◌||◌, ◌==◌, nat_le, int_lt, if◌then◌else◌, List, [], ◌∷◌, Option, Some, None, is_some, codes}
+use Rattle.std.specs.Prelude.{ℕ, ℤ, pos, ◌+ℤ◌, ◌%◌, Bool, true, false, ◌&&◌, ◌||◌, ◌==◌, nat_le, int_lt, if◌then◌else◌, List, [], ◌∷◌, Option, Some, None, is_some, codes}
 use Rattle.std.specs.List.{list_all}
 use Rattle.cg_base.specs.declared.form.Form.{Form, out-Form}
-use Rattle.cg_base.specs.declared.form.Form.TheOpen.{Form-F, Number, Symbol, Str, Flag, Items}
+use Rattle.cg_base.specs.declared.form.Form.TheOpen.{Flag, Items}
 use Rattle.cg_attrs.specs.declared.content.Content.{Content}
 use Rattle.cg_attrs.specs.declared.content.Content.TheVariants as content
-use Rattle.cg_base.specs.Parts.{Layer, symbol_of, elements_of, number_of, natural_of, word_of, is_symbol, only_symbol, only_word, only_flag, only_natural}
+use Rattle.cg_base.specs.Parts.{Layer, elements_of, number_of, natural_of, word_of, is_symbol, only_symbol, only_word, only_flag, only_natural}
 use Rattle.cg_attrs.specs.Tests.{is_among, passes}
 use Rattle.cg_attrs.specs.Attrs.{is_attr}
 

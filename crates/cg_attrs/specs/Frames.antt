@@ -1,5 +1,5 @@
 -- What the forms that frame a machine say, where they have no fault.
-use Rattle.std.specs.Prelude.{◌≡◌, ℕ, List, [], ◌∷◌, slice_get, Option, Some, None, codes}
+use Rattle.std.specs.Prelude.{ℕ, List, [], slice_get, Option, codes}
 use Rattle.std.specs.List.{filter_map}
 use Rattle.std.specs.Option.{option_map, unwrap_or}
 use Rattle.cg_base.specs.declared.form.Form.{Form}
@@ -101,11 +101,11 @@ symbol_by_place place arguments = slice_get arguments place >>= symbol_of
 unfoldable pub word_by_place : ℕ → List Form → Option (List ℕ)
 word_by_place place arguments = slice_get arguments place >>= word_of
 
-unfoldable pub list_by_place : ℕ → List Form → Option (List Form)
-list_by_place place arguments = slice_get arguments place >>= elements_of
+unfoldable pub elements_by_place : ℕ → List Form → Option (List Form)
+elements_by_place place arguments = slice_get arguments place >>= elements_of
 
-abbrev pub elements_by_place : ℕ → List Form → List Form
-elements_by_place place arguments = unwrap_or (list_by_place place arguments) []
+abbrev pub elements_or_none : ℕ → List Form → List Form
+elements_or_none place arguments = unwrap_or (elements_by_place place arguments) []
 
 -- the arguments are name, comment, attrs, prefix, field and values
 abbrev pub insn_enum_of : List Form → InsnEnumForm
@@ -113,8 +113,8 @@ insn_enum_of arguments = record {
   name = unwrap_or (symbol_by_place 0 arguments) [];
   prefix = unwrap_or (word_by_place 3 arguments) [];
   field = unwrap_or (symbol_by_place 4 arguments) [];
-  values = Items (elements_by_place 5 arguments);
-  attrs = filter_map attr_of (elements_by_place 2 arguments);
+  values = Items (elements_or_none 5 arguments);
+  attrs = filter_map attr_of (elements_or_none 2 arguments);
 }
 
 -- What the elements behind the head of a form without fault say.

@@ -1,17 +1,15 @@
 -- What is at fault in a form that is to frame a machine: for each refusal, the texts at fault, in the order of their places in
 -- the form from left to right.
-use Rattle.std.specs.Prelude.{◌≡◌, ℕ, Bool, true, false, not, ◌&&◌, ◌||◌, nat_eq, if◌then◌else◌, List, [], ◌∷◌, ◌++◌, map, Option, Some, None, is_some, Result, Ok, Err, codes}
+use Rattle.std.specs.Prelude.{◌≡◌, ℕ, Bool, ◌||◌, nat_eq, if◌then◌else◌, List, [], ◌∷◌, ◌++◌, map, Option, Some, None, is_some, Result, Ok, Err, codes}
 use Rattle.std.specs.Borrow.{Bor}
-use Rattle.std.specs.List.{filter_map, cons_option}
+use Rattle.std.specs.List.{cons_option}
 use Rattle.std.specs.Cmp.Lexicographic.{pointwise}
 use Rattle.cg_base.specs.declared.form.Form.{Form}
-use Rattle.cg_attrs.specs.declared.clauses.Role.{Role}
-use Rattle.cg_attrs.specs.declared.clauses.Role.TheVariants.{Wanted, Optional, Repeated, Plain, LeftOut}
 use Rattle.cg_attrs.specs.declared.content.Content.{Content}
 use Rattle.cg_attrs.specs.declared.fault.Fault as declared
 use Rattle.cg_attrs.specs.declared.table.Kind.{Kind}
 use Rattle.cg_attrs.specs.declared.table.Kind.TheVariants as kind
-use Rattle.cg_base.specs.Parts.{◌>>=◌, Headed, headed}
+use Rattle.cg_base.specs.Parts.{Headed, headed}
 use Rattle.cg_attrs.specs.Clauses.{Row, misplaced, absent, wrong, left_out}
 use Rattle.cg_attrs.specs.Contents.{fits, leaves_out, fits_argument}
 use Rattle.cg_attrs.specs.Faults.{seen_fault, least}

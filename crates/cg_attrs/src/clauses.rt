@@ -12,8 +12,8 @@ ghost use Rattle.cg_attrs.specs.Clauses.{seen, row_named, is_rule, counts_absent
 use crate::fault::Fault;
 use cg_base::{Form, only_flag};
 
-/// What a reader asks of what stands behind the name of a clause (docs/LANGUAGE.md, "Forms and
-/// clauses").
+/// What has to stand behind the name of a clause: each reader of forms has a type of its own for
+/// it (docs/LANGUAGE.md, "Forms and clauses").
 pub trait ContentKind {
     /// Forms are of this kind.
     ghost fits: { Self → List Form → Bool };
@@ -54,7 +54,7 @@ pub struct Row<C> {
     pub name: &'static [u8],
     /// What it is to its form.
     pub role: Role,
-    /// What has to stand behind its name.
+    /// What has to stand behind its name, judged whatever its role.
     pub content: C,
 }
 

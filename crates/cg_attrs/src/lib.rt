@@ -1,4 +1,5 @@
-//! Reading the attributes of a form, and the forms that frame a machine.
+//! Reading the attributes of a form and the forms that frame a machine, and judging the clauses of
+//! any form by a table.
 #![tactic(auto)]
 
 mod attr;

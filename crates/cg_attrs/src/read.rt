@@ -4,7 +4,7 @@ ghost use Rattle.std.specs.Prelude.{◌≡◌, IfOk};
 ghost use Rattle.std.specs.Option.{option_copied};
 ghost use Rattle.cg_attrs.specs.Faults.{least, Answers};
 ghost use Rattle.cg_attrs.specs.Judging.{frame_faults};
-ghost use Rattle.cg_attrs.specs.Frames.{arch_of, isa_of, cpu_of, mach_of, model_of, attr_def_of, enum_of, insn_enum_of, keyword_of, symbol_by_place, word_by_place, list_by_place, elements_by_place, frame_in, frame_of};
+ghost use Rattle.cg_attrs.specs.Frames.{arch_of, isa_of, cpu_of, mach_of, model_of, attr_def_of, enum_of, insn_enum_of, keyword_of, symbol_by_place, word_by_place, elements_by_place, elements_or_none, frame_in, frame_of};
 
 use crate::attr::attrs_among;
 use crate::fault::refusal;
@@ -135,18 +135,18 @@ fn word_by_place(arguments: &[Form], place: usize) -> Option<&Text>
 }
 
 /// The elements of the argument at a place, a list.
-#[tactic(auto, unfolding(crate::specs::Frames::list_by_place))]
-fn list_by_place(arguments: &[Form], place: usize) -> Option<&[Form]>
-    ensures { option_copied result ≡ list_by_place place arguments.now }
+#[tactic(auto, unfolding(crate::specs::Frames::elements_by_place))]
+fn elements_by_place(arguments: &[Form], place: usize) -> Option<&[Form]>
+    ensures { option_copied result ≡ elements_by_place place arguments.now }
 {
     nth(arguments, place)?.elements()
 }
 
 /// The elements of the argument at a place, which is a list.
-fn elements_by_place(arguments: &[Form], place: usize) -> &[Form]
-    ensures { result.now ≡ elements_by_place place arguments.now }
+fn elements_or_none(arguments: &[Form], place: usize) -> &[Form]
+    ensures { result.now ≡ elements_or_none place arguments.now }
 {
-    match list_by_place(arguments, place) {
+    match elements_by_place(arguments, place) {
         Some(elements) => elements,
         None => &[],
     }
@@ -159,8 +159,8 @@ fn insn_enum(alloc: Global, arguments: &[Form]) -> Result<InsnEnumForm, NoMemory
         name: text_or_none(alloc, symbol_by_place(arguments, 0))?,
         prefix: text_or_none(alloc, word_by_place(arguments, 3))?,
         field: text_or_none(alloc, symbol_by_place(arguments, 4))?,
-        values: list_of(alloc, elements_by_place(arguments, 5))?,
-        attrs: attrs_among(alloc, elements_by_place(arguments, 2))?,
+        values: list_of(alloc, elements_or_none(arguments, 5))?,
+        attrs: attrs_among(alloc, elements_or_none(arguments, 2))?,
     })
 }
 

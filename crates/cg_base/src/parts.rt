@@ -8,7 +8,7 @@ ghost use Rattle.cg_base.specs.Parts.{symbol_of, is_symbol, string_of, word_of, 
 use crate::{Form, Text};
 
 impl Form {
-    /// The text of a symbol, and None exactly where the form is none.
+    /// The text of a symbol. None exactly where the form is no symbol.
     pub fn symbol(&self) -> Option<&Text>
         ensures { option_copied result ≡ symbol_of self.now }
     {
@@ -25,7 +25,7 @@ impl Form {
         self.symbol().is_some()
     }
 
-    /// The text of a string, and None exactly where the form is none.
+    /// The text of a string. None exactly where the form is no string.
     pub fn string(&self) -> Option<&Text>
         ensures { option_copied result ≡ string_of self.now }
     {
@@ -35,8 +35,7 @@ impl Form {
         }
     }
 
-    /// The text of a word, which is a symbol or a string, and None exactly where the form is
-    /// neither.
+    /// The text of a word, which is a symbol or a string. None exactly where the form is neither.
     pub fn word(&self) -> Option<&Text>
         ensures { option_copied result ≡ word_of self.now }
     {
@@ -46,7 +45,7 @@ impl Form {
         }
     }
 
-    /// The value of a number, and None exactly where the form is none.
+    /// The value of a number. None exactly where the form is no number.
     pub fn number(&self) -> Option<i64>
         ensures { result ≡ number_of self.now }
     {
@@ -56,7 +55,7 @@ impl Form {
         }
     }
 
-    /// The value of a number from 0, and None exactly where the form is no number or below 0.
+    /// The value of a number from 0. None exactly where the form is no number, or one below 0.
     pub fn natural(&self) -> Option<u64>
         ensures { result ≡ natural_of self.now }
     {
@@ -66,7 +65,7 @@ impl Form {
         }
     }
 
-    /// The value of a flag, and None exactly where the form is none.
+    /// The value of a flag. None exactly where the form is no flag.
     pub fn flag(&self) -> Option<bool>
         ensures { result ≡ flag_of self.now }
     {
@@ -76,7 +75,7 @@ impl Form {
         }
     }
 
-    /// The elements of a list, its head among them, and None exactly where the form is none.
+    /// The elements of a list, its head among them. None exactly where the form is no list.
     pub fn elements(&self) -> Option<&[Form]>
         ensures { option_copied result ≡ elements_of self.now }
     {
@@ -139,7 +138,7 @@ pub fn are_symbols(forms: &[Form]) -> bool
     forms.iter().all(Form::is_symbol)
 }
 
-/// The one element of a list, and None exactly where there is none or several.
+/// The one element of a list. None exactly where there is none, or more than one.
 pub fn only(forms: &[Form]) -> Option<&Form>
     ensures { option_copied result ≡ only forms.now }
 {
