@@ -1,12 +1,12 @@
 -- Arguments that stand by their places.
-use Rattle.std.proofs.Common.{◌≡◌, ℕ, List, [], ◌∷◌, length, map, refl, arith, Option, Some, None}
+use Rattle.std.proofs.Common.{◌≡◌, List, [], ◌∷◌, length, map, refl, arith}
 use Rattle.std.specs.Prelude.{slice_get}
 use Rattle.std.specs.Option.{option_map}
 use Rattle.cg_base.specs.declared.form.Form.{Form}
 use Rattle.cg_attrs.specs.declared.clauses.Row.{Row}
 use Rattle.cg_attrs.specs.declared.content.Content.{Content}
 use Rattle.cg_attrs.specs.Clauses.{seen}
-use Rattle.cg_attrs.specs.Parts.{first}
+use Rattle.cg_attrs.specs.Faults.{first}
 use Rattle.cg_attrs.specs.Judging.{heading, extra, missing, wrong_arguments}
 
 -- the first that has no row stands behind as many as there are rows

@@ -1,11 +1,12 @@
 -- What may stand behind the name of a clause.
-use Rattle.std.specs.Prelude.{◌≡◌, ℕ, ℤ, pos, ◌+ℤ◌, ◌%◌, Bool, true, false, ◌&&◌, ◌||◌, ◌==◌, nat_le, int_lt, if◌then◌else◌, List, [], ◌∷◌, Option, Some, None, is_some, codes}
+use Rattle.std.specs.Prelude.{ℕ, ℤ, pos, ◌+ℤ◌, ◌%◌, Bool, true, false, ◌&&◌, ◌||◌, ◌==◌, nat_le, int_lt, if◌then◌else◌, List, [], ◌∷◌, Option, Some, None, is_some, codes}
 use Rattle.std.specs.List.{list_all}
 use Rattle.cg_base.specs.declared.form.Form.{Form, out-Form}
-use Rattle.cg_base.specs.declared.form.Form.TheOpen.{Form-F, Number, Symbol, Str, Flag, Items}
+use Rattle.cg_base.specs.declared.form.Form.TheOpen.{Flag, Items}
 use Rattle.cg_attrs.specs.declared.content.Content.{Content}
 use Rattle.cg_attrs.specs.declared.content.Content.TheVariants as content
-use Rattle.cg_attrs.specs.Parts.{Layer, symbol_of, items_of, number_of, natural_of, word_of, is_symbol, only_symbol, only_word, only_flag, only_natural, is_among, passes}
+use Rattle.cg_base.specs.Parts.{Layer, elements_of, number_of, natural_of, word_of, is_symbol, only_symbol, only_word, only_flag, only_natural}
+use Rattle.cg_attrs.specs.Tests.{is_among, passes}
 use Rattle.cg_attrs.specs.Attrs.{is_attr}
 
 abbrev pub is_alignment : List ℕ → Bool
@@ -79,12 +80,12 @@ fits content.Anything fs = true
 abbrev pub either : List Form → Option (List ℕ)
 either fs = if passes (is_among (codes "either" ∷ [])) (only_symbol fs) then Some (codes "either") else None
 
-abbrev pub left_out_content : Content → List Form → Option (List ℕ)
-left_out_content content.Endian fs = either fs
-left_out_content _ fs = None
+abbrev pub leaves_out : Content → List Form → Option (List ℕ)
+leaves_out content.Endian fs = either fs
+leaves_out _ fs = None
 
 -- An argument that stands by its place is of its kind: attributes and items are in a list of their own.
 abbrev pub fits_argument : Content → Form → Bool
-fits_argument content.Attributes f = passes (fits content.Attributes) (items_of f)
-fits_argument content.Items f = passes (fits content.Items) (items_of f)
+fits_argument content.Attributes f = passes (fits content.Attributes) (elements_of f)
+fits_argument content.Items f = passes (fits content.Items) (elements_of f)
 fits_argument content f = fits content (f ∷ [])

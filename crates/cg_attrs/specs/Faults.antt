@@ -5,7 +5,6 @@ use Rattle.cg_base.specs.declared.refusal.Refusal.{Refusal}
 use Rattle.cg_base.specs.declared.refusal.Stop.{Stop}
 use Rattle.cg_base.specs.declared.refusal.Stop.TheVariants.{Refused, NoMemory}
 use Rattle.cg_attrs.specs.declared.fault.Fault as declared
-use Rattle.cg_attrs.specs.Parts.{first}
 
 -- the number of a refusal, and its text
 abbrev pub Fault : Type 0
@@ -16,6 +15,10 @@ seen_fault f = (f.number, f.text.now)
 
 abbrev pub numbered : ℕ → List ℕ → Fault
 numbered number text = (number, text)
+
+abbrev pub first : {A : Type 0} → List A → Option A
+first [] = None
+first (x ∷ xs) = Some x
 
 -- Of the texts at fault under each number, the first of the first list that isn't empty.
 abbrev pub least : List (ℕ × List (List ℕ)) → Option Fault

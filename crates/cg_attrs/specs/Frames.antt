@@ -1,5 +1,5 @@
 -- What the forms that frame a machine say, where they have no fault.
-use Rattle.std.specs.Prelude.{◌≡◌, ℕ, List, [], ◌∷◌, slice_get, Option, Some, None, codes}
+use Rattle.std.specs.Prelude.{ℕ, List, [], slice_get, Option, codes}
 use Rattle.std.specs.List.{filter_map}
 use Rattle.std.specs.Option.{option_map, unwrap_or}
 use Rattle.cg_base.specs.declared.form.Form.{Form}
@@ -17,7 +17,7 @@ use Rattle.cg_attrs.specs.declared.frame.Frame.{Frame}
 use Rattle.cg_attrs.specs.declared.frame.Frame.TheVariants as frame
 use Rattle.cg_attrs.specs.declared.table.Kind.{Kind}
 use Rattle.cg_attrs.specs.declared.table.Kind.TheVariants as kind
-use Rattle.cg_attrs.specs.Parts.{◌>>=◌, symbol_of, word_of, items_of, clause_of}
+use Rattle.cg_base.specs.Parts.{◌>>=◌, symbol_of, word_of, elements_of, headed}
 use Rattle.cg_attrs.specs.Attrs.{attr_of}
 use Rattle.cg_attrs.specs.Lookups.{symbol_at, word_at, flag_at, number_at, optional_symbols, optional_form, wanted_symbol, wanted_number, wanted_symbols, wanted_form, attrs_at, units}
 use Rattle.cg_attrs.specs.Judging.{kind_as}
@@ -101,11 +101,11 @@ symbol_by_place place arguments = slice_get arguments place >>= symbol_of
 unfoldable pub word_by_place : ℕ → List Form → Option (List ℕ)
 word_by_place place arguments = slice_get arguments place >>= word_of
 
-unfoldable pub list_by_place : ℕ → List Form → Option (List Form)
-list_by_place place arguments = slice_get arguments place >>= items_of
+unfoldable pub elements_by_place : ℕ → List Form → Option (List Form)
+elements_by_place place arguments = slice_get arguments place >>= elements_of
 
-abbrev pub items_by_place : ℕ → List Form → List Form
-items_by_place place arguments = unwrap_or (list_by_place place arguments) []
+abbrev pub elements_or_none : ℕ → List Form → List Form
+elements_or_none place arguments = unwrap_or (elements_by_place place arguments) []
 
 -- the arguments are name, comment, attrs, prefix, field and values
 abbrev pub insn_enum_of : List Form → InsnEnumForm
@@ -113,8 +113,8 @@ insn_enum_of arguments = record {
   name = unwrap_or (symbol_by_place 0 arguments) [];
   prefix = unwrap_or (word_by_place 3 arguments) [];
   field = unwrap_or (symbol_by_place 4 arguments) [];
-  values = Items (items_by_place 5 arguments);
-  attrs = filter_map attr_of (items_by_place 2 arguments);
+  values = Items (elements_or_none 5 arguments);
+  attrs = filter_map attr_of (elements_or_none 2 arguments);
 }
 
 -- What the elements behind the head of a form without fault say.
@@ -131,4 +131,4 @@ frame_in kind.Keyword elements = frame.Keyword (keyword_of elements)
 
 -- What a form without fault says.
 abbrev pub frame_of : Form → Option Frame
-frame_of f = option_map (λ x. frame_in x.0 x.1) (kind_as (clause_of f))
+frame_of f = option_map (λ x. frame_in x.0 x.1) (kind_as (headed f))

@@ -1,49 +1,19 @@
 -- What is at fault in a form that is to frame a machine: for each refusal, the texts at fault, in the order of their places in
 -- the form from left to right.
-use Rattle.std.specs.Prelude.{◌≡◌, ℕ, Bool, true, false, not, ◌&&◌, ◌||◌, nat_eq, if◌then◌else◌, List, [], ◌∷◌, ◌++◌, map, Option, Some, None, is_some, Result, Ok, Err, codes}
+use Rattle.std.specs.Prelude.{◌≡◌, ℕ, Bool, ◌||◌, nat_eq, if◌then◌else◌, List, [], ◌∷◌, ◌++◌, map, Option, Some, None, is_some, Result, Ok, Err, codes}
 use Rattle.std.specs.Borrow.{Bor}
-use Rattle.std.specs.List.{filter_map, cons_option}
+use Rattle.std.specs.List.{cons_option}
 use Rattle.std.specs.Cmp.Lexicographic.{pointwise}
 use Rattle.cg_base.specs.declared.form.Form.{Form}
-use Rattle.cg_attrs.specs.declared.clauses.Role.{Role}
-use Rattle.cg_attrs.specs.declared.clauses.Role.TheVariants.{Wanted, Optional, Repeated, Plain, LeftOut}
 use Rattle.cg_attrs.specs.declared.content.Content.{Content}
 use Rattle.cg_attrs.specs.declared.fault.Fault as declared
 use Rattle.cg_attrs.specs.declared.table.Kind.{Kind}
 use Rattle.cg_attrs.specs.declared.table.Kind.TheVariants as kind
-use Rattle.cg_attrs.specs.Parts.{◌>>=◌, clause_of}
-use Rattle.cg_attrs.specs.Clauses.{Row, standing, misplaced, absent}
-use Rattle.cg_attrs.specs.Contents.{fits, left_out_content, fits_argument}
+use Rattle.cg_base.specs.Parts.{Headed, headed}
+use Rattle.cg_attrs.specs.Clauses.{Row, misplaced, absent, wrong, left_out}
+use Rattle.cg_attrs.specs.Contents.{fits, leaves_out, fits_argument}
 use Rattle.cg_attrs.specs.Faults.{seen_fault, least}
 use Rattle.cg_attrs.specs.Tables.{kind_named, rows_of}
-
--- a list that a symbol heads: that symbol, and the elements behind it
-abbrev pub Headed : Type 0
-Headed = List ℕ × List Form
-
--- E304: the names of the clauses whose content isn't of its kind.
-abbrev pub wrong_in : Row Content × List Form → Option (List ℕ)
-wrong_in x = if fits x.0.content x.1 then None else Some x.0.name
-
-unfoldable pub wrong_at : List (Row Content) → Form → Option (List ℕ)
-wrong_at rows f = standing rows f >>= wrong_in
-
-abbrev pub wrong : List (Row Content) → List Form → List (List ℕ)
-wrong rows elements = filter_map (wrong_at rows) elements
-
--- E307: the names of the clauses that are left out, and what is left out of the content of others.
-abbrev pub is_left_out : Role → Bool
-is_left_out LeftOut = true
-is_left_out _ = false
-
-abbrev pub left_out_in : Row Content × List Form → Option (List ℕ)
-left_out_in x = if is_left_out x.0.role then Some x.0.name else left_out_content x.0.content x.1
-
-unfoldable pub left_out_at : List (Row Content) → Form → Option (List ℕ)
-left_out_at rows f = standing rows f >>= left_out_in
-
-abbrev pub left_out : List (Row Content) → List Form → List (List ℕ)
-left_out rows elements = filter_map (left_out_at rows) elements
 
 -- Where arguments stand by their places. E302: of each that has no row, the symbol that heads it, else `clause`.
 abbrev pub heading_in : Option Headed → List ℕ
@@ -51,7 +21,7 @@ heading_in None = codes "clause"
 heading_in (Some x) = x.0
 
 abbrev pub heading : Form → List ℕ
-heading f = heading_in (clause_of f)
+heading f = heading_in (headed f)
 
 abbrev pub extra : List (Row Content) → List Form → List (List ℕ)
 extra [] fs = map heading fs
@@ -84,11 +54,11 @@ absent_of k elements = absent (rows_of k) elements
 
 abbrev pub wrong_of : Kind → List Form → List (List ℕ)
 wrong_of kind.InsnEnum elements = wrong_arguments (rows_of kind.InsnEnum) elements
-wrong_of k elements = wrong (rows_of k) elements
+wrong_of k elements = wrong fits (rows_of k) elements
 
 abbrev pub left_out_of : Kind → List Form → List (List ℕ)
 left_out_of kind.InsnEnum elements = []
-left_out_of k elements = left_out (rows_of k) elements
+left_out_of k elements = left_out leaves_out (rows_of k) elements
 
 -- The texts at fault of a form that frames a machine; another has none of them.
 abbrev pub of_kind : (Kind → List Form → List (List ℕ)) → List Form → Option Kind → List (List ℕ)
@@ -133,13 +103,9 @@ abbrev pub faults_as : Option Headed → List (ℕ × List (List ℕ))
 faults_as f = (301, texts_301 f) ∷ (302, texts_302 f) ∷ (303, texts_303 f) ∷ (304, texts_304 f) ∷ (307, texts_307 f) ∷ []
 
 abbrev pub frame_faults : Form → List (ℕ × List (List ℕ))
-frame_faults f = faults_as (clause_of f)
+frame_faults f = faults_as (headed f)
 
--- The same of the clauses of a form, of arguments by their places, and of the elements behind a head.
-abbrev pub clause_faults : List (Row Content) → List Form → List (ℕ × List (List ℕ))
-clause_faults rows elements =
-    (302, misplaced rows [] elements) ∷ (303, absent rows elements) ∷ (304, wrong rows elements) ∷ (307, left_out rows elements) ∷ []
-
+-- The same of arguments by their places, and of the elements behind a head.
 abbrev pub argument_faults : List (Row Content) → List Form → List (ℕ × List (List ℕ))
 argument_faults rows arguments = (302, extra rows arguments) ∷ (303, missing rows arguments) ∷ (304, wrong_arguments rows arguments) ∷ []
 

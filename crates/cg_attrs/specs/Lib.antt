@@ -1,4 +1,4 @@
-pub mod Parts
+pub mod Tests
 pub mod Faults
 pub mod Attrs
 pub mod Clauses

@@ -1,7 +1,6 @@
 -- Which clauses the forms that frame a machine have.
-use Rattle.std.specs.Prelude.{◌≡◌, ℕ, Bool, nat_eq, if◌then◌else◌, List, [], ◌∷◌, Option, Some, None, codes}
+use Rattle.std.specs.Prelude.{ℕ, nat_eq, if◌then◌else◌, List, [], ◌∷◌, Option, Some, None, codes}
 use Rattle.std.specs.Cmp.Lexicographic.{pointwise}
-use Rattle.cg_attrs.specs.declared.clauses.Role.{Role}
 use Rattle.cg_attrs.specs.declared.clauses.Role.TheVariants.{Wanted, Optional, Repeated, Plain, LeftOut}
 use Rattle.cg_attrs.specs.declared.content.Content.{Content}
 use Rattle.cg_attrs.specs.declared.content.Content.TheVariants as content

@@ -6,8 +6,7 @@ ghost use Rattle.cg_attrs.specs.Attrs.{is_bitset, is_known_flag, as_attr, flag_n
 ghost use Rattle.cg_attrs.specs.Faults.{least, Answers};
 
 use crate::fault::{Fault, refusal};
-use crate::parts::{are_symbols, headed, items, only, symbol};
-use cg_base::{Form, List, NoMemory, Stop, Text};
+use cg_base::{Form, List, NoMemory, Stop, Text, are_symbols, only};
 use std::alloc::Global;
 
 /// An attribute of a form (docs/LANGUAGE.md, "Attributes").
@@ -153,12 +152,12 @@ fn given<'a>(name: &'a [u8], values: &'a [Form]) -> Option<(&'a [u8], Said<'a>)>
     }
 }
 
-/// The elements of `(NAME value ..)`.
+/// The form `(NAME value ..)`.
 #[tactic(auto, unfolding(crate::specs::Attrs::given_in))]
-fn given_in(items: &[Form]) -> Option<(&[u8], Said<'_>)>
-    ensures { option_map as_attr result ≡ given_in items.now }
+fn given_in(form: &Form) -> Option<(&[u8], Said<'_>)>
+    ensures { option_map as_attr result ≡ given_in form.now }
 {
-    let (name, values) = headed(items)?;
+    let (name, values) = form.headed()?;
     given(name.as_slice(), values)
 }
 
@@ -166,10 +165,9 @@ fn given_in(items: &[Form]) -> Option<(&[u8], Said<'_>)>
 fn attribute(form: &Form) -> Option<(&[u8], Said<'_>)>
     ensures { option_map as_attr result ≡ attr_of form.now }
 {
-    match form {
-        Form::Symbol(text) => bare(text.as_slice()),
-        Form::Items(items) => given_in(items.as_slice()),
-        _ => None,
+    match form.symbol() {
+        Some(text) => bare(text.as_slice()),
+        None => given_in(form),
     }
 }
 
@@ -199,7 +197,7 @@ fn all_attrs(forms: &[Form]) -> Option<&[Form]>
 fn attributes(form: &Form) -> Option<&[Form]>
     ensures { option_copied result ≡ attributes_of form.now }
 {
-    all_attrs(items(form)?)
+    all_attrs(form.elements()?)
 }
 
 /// Puts the words between the commas of a text at the end.
@@ -224,7 +222,7 @@ fn words(alloc: Global, symbols: &[Form]) -> Result<List<Text>, NoMemory>
 {
     let mut names = List::new(alloc);
     for form in symbols {
-        if let Some(text) = symbol(form) {
+        if let Some(text) = form.symbol() {
             push_words(alloc, &mut names, text.as_slice())?;
         }
     }

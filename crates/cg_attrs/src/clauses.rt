@@ -1,17 +1,39 @@
 //! The clauses of a form, judged by a table that has a row for each.
 
-ghost use Rattle.std.specs.Prelude.{◌≡◌, [], map, not};
+ghost use Rattle.std.specs.Prelude.{◌≡◌, ℕ, Bool, List, Option, [], map, not};
+ghost use Rattle.cg_base.specs.declared.form.Form.{Form};
 ghost use Rattle.std.specs.Option.{option_copied, option_map};
 ghost use Rattle.std.specs.List.{find, list_any};
-ghost use Rattle.cg_attrs.specs.Parts.{first, only_flag, passes};
-ghost use Rattle.cg_attrs.specs.Clauses.{seen, row_named, is_rule, counts_absent, stands_as, standing, content_of, content_at, may_stand, misplaced_at, misplaced, absent};
+ghost use Rattle.cg_base.specs.Parts.{only_flag};
+ghost use Rattle.cg_attrs.specs.Tests.{passes};
+ghost use Rattle.cg_attrs.specs.Faults.{first, seen_fault, least};
+ghost use Rattle.cg_attrs.specs.Clauses.{seen, row_named, is_rule, counts_absent, stands_as, standing, content_of, content_at, may_stand, misplaced_at, misplaced, absent, wrong_at, wrong, left_out_at, left_out, clause_faults};
 
-use crate::parts::{clause, only_flag};
-use cg_base::Form;
+use crate::fault::Fault;
+use cg_base::{Form, only_flag};
+
+/// What has to stand behind the name of a clause: each reader of forms has a type of its own for
+/// it (docs/LANGUAGE.md, "Forms and clauses").
+pub trait ContentKind {
+    /// Forms are of this kind.
+    ghost fits: { Self → List Form → Bool };
+
+    /// The text of what this language leaves out of such forms, if anything.
+    ghost leaves_out: { Self → List Form → Option (List ℕ) };
+
+    /// Whether forms are of this kind. Forms of which something is left out may be.
+    fn fits(&self, forms: &[Form]) -> bool
+        ensures { result ≡ fits self.now forms.now };
+
+    /// The text of what this language leaves out of forms of this kind, and None exactly where
+    /// it leaves out nothing.
+    fn leaves_out(&self, forms: &[Form]) -> Option<&'static [u8]>
+        ensures { option_copied result ≡ leaves_out self.now forms.now };
+}
 
 /// What a clause is to its form (docs/LANGUAGE.md, "Forms and clauses").
 #[derive(Clone, Copy, Debug, PartialEq, Eq)]
-pub(crate) enum Role {
+pub enum Role {
     /// It has to stand, once.
     Wanted,
     /// It may stand, once.
@@ -24,20 +46,20 @@ pub(crate) enum Role {
     LeftOut,
 }
 
-/// A clause that a form may have. It counts as absent where nothing stands behind its name, or
-/// `#f` where a rule is meant.
+/// A clause that a form may have: a row of the form's table. It counts as absent where nothing
+/// stands behind its name, or `#f` where a rule is meant.
 #[derive(Clone, Copy, Debug)]
-pub(crate) struct Row<C> {
+pub struct Row<C> {
     /// The clause's name.
-    pub(crate) name: &'static [u8],
+    pub name: &'static [u8],
     /// What it is to its form.
-    pub(crate) role: Role,
-    /// What has to stand behind its name.
-    pub(crate) content: C,
+    pub role: Role,
+    /// What has to stand behind its name, judged whatever its role.
+    pub content: C,
 }
 
 /// The row of the clause with this name. None exactly where no row has it.
-pub(crate) fn row_named<'a, C>(rows: &'a [Row<C>], name: &[u8]) -> Option<&'a Row<C>>
+fn row_named<'a, C>(rows: &'a [Row<C>], name: &[u8]) -> Option<&'a Row<C>>
     ensures { option_map (λ r. seen r.now) result ≡ row_named (map seen rows.now) name.now }
 {
     for row in rows {
@@ -80,7 +102,7 @@ fn counts_absent(name: &[u8], content: &[Form]) -> bool
 pub(crate) fn stands_as(form: &Form, name: &[u8]) -> bool
     ensures { result ≡ stands_as name.now form.now }
 {
-    match clause(form) {
+    match form.headed() {
         Some((head, content)) => head.as_slice() == name
             && !counts_absent(head.as_slice(), content),
         None => false,
@@ -97,13 +119,10 @@ fn stands_among(forms: &[Form], name: &[u8]) -> bool
 /// The row of a clause that doesn't count as absent, and what stands behind its name. None
 /// exactly where the form is no such clause or no row has its name.
 #[tactic(auto, unfolding(crate::specs::Clauses::standing))]
-pub(crate) fn standing<'a, C>(
-    rows: &'a [Row<C>],
-    form: &'a Form,
-) -> Option<(&'a Row<C>, &'a [Form])>
+fn standing<'a, C>(rows: &'a [Row<C>], form: &'a Form) -> Option<(&'a Row<C>, &'a [Form])>
     ensures { option_map (λ x. (seen x.0.now, x.1.now)) result ≡ standing (map seen rows.now) form.now }
 {
-    let (name, content) = clause(form)?;
+    let (name, content) = form.headed()?;
     if counts_absent(name.as_slice(), content) {
         return None;
     }
@@ -122,14 +141,14 @@ fn first_clause<'a>(forms: &'a [Form], name: &[u8]) -> Option<&'a Form>
 pub(crate) fn content(form: &Form) -> Option<&[Form]>
     ensures { option_copied result ≡ content_of form.now }
 {
-    let (_, content) = clause(form)?;
+    let (_, content) = form.headed()?;
     Some(content)
 }
 
 /// What stands behind the name of the first clause of this name that doesn't count as absent.
 /// None exactly where there is no such clause.
 #[tactic(auto, unfolding(crate::specs::Clauses::content_at))]
-pub(crate) fn content_at<'a>(forms: &'a [Form], name: &[u8]) -> Option<&'a [Form]>
+pub fn content_at<'a>(forms: &'a [Form], name: &[u8]) -> Option<&'a [Form]>
     ensures { option_copied result ≡ content_at name.now forms.now }
 {
     content(first_clause(forms, name)?)
@@ -149,7 +168,7 @@ fn may_stand<C>(rows: &[Row<C>], before: &[Form], name: &[u8]) -> bool
 fn misplaced_at<'a, C>(rows: &[Row<C>], before: &[Form], form: &'a Form) -> Option<&'a [u8]>
     ensures { option_copied result ≡ misplaced_at (map seen rows.now) before.now form.now }
 {
-    match clause(form) {
+    match form.headed() {
         Some((name, content)) => {
             let name = name.as_slice();
             if counts_absent(name, content) || may_stand(rows, before, name) {
@@ -164,7 +183,7 @@ fn misplaced_at<'a, C>(rows: &[Row<C>], before: &[Form], form: &'a Form) -> Opti
 
 /// The first text of E302: the name of the first clause that has no row or stands twice, or
 /// `clause` where the first such element is no list that a symbol heads (docs/REFUSALS.md).
-pub(crate) fn first_misplaced<'a, C>(rows: &[Row<C>], elements: &'a [Form]) -> Option<&'a [u8]>
+fn first_misplaced<'a, C>(rows: &[Row<C>], elements: &'a [Form]) -> Option<&'a [u8]>
     ensures { option_copied result ≡ first (misplaced (map seen rows.now) [] elements.now) }
 {
     for (i, element) in elements.iter().enumerate() {
@@ -177,13 +196,85 @@ pub(crate) fn first_misplaced<'a, C>(rows: &[Row<C>], elements: &'a [Form]) -> O
 
 /// The first text of E303: the name of the first row whose clause is wanted and absent
 /// (docs/REFUSALS.md).
-pub(crate) fn first_absent<C>(rows: &[Row<C>], elements: &[Form]) -> Option<&'static [u8]>
+fn first_absent<C>(rows: &[Row<C>], elements: &[Form]) -> Option<&'static [u8]>
     ensures { option_copied result ≡ first (absent (map seen rows.now) elements.now) }
 {
     for row in rows {
         if row.role == Role::Wanted && !stands_among(elements, row.name) {
             return Some(row.name);
         }
+    }
+    None
+}
+
+/// The name of a clause whose content isn't of its kind.
+#[tactic(auto, unfolding(crate::specs::Clauses::wrong_at))]
+fn wrong_at<C: ContentKind>(rows: &[Row<C>], form: &Form) -> Option<&'static [u8]>
+    ensures { option_copied result ≡ wrong_at C.fits (map seen rows.now) form.now }
+{
+    let (row, content) = standing(rows, form)?;
+    if row.content.fits(content) {
+        None
+    } else {
+        Some(row.name)
+    }
+}
+
+/// The first text of E304: the name of the first clause whose content isn't of its kind
+/// (docs/REFUSALS.md).
+fn first_wrong<C: ContentKind>(rows: &[Row<C>], elements: &[Form]) -> Option<&'static [u8]>
+    ensures { option_copied result ≡ first (wrong C.fits (map seen rows.now) elements.now) }
+{
+    for element in elements {
+        if let Some(text) = wrong_at(rows, element) {
+            return Some(text);
+        }
+    }
+    None
+}
+
+/// The name of a clause that is left out, or what is left out of its content.
+#[tactic(auto, unfolding(crate::specs::Clauses::left_out_at))]
+fn left_out_at<C: ContentKind>(rows: &[Row<C>], form: &Form) -> Option<&'static [u8]>
+    ensures { option_copied result ≡ left_out_at C.leaves_out (map seen rows.now) form.now }
+{
+    let (row, content) = standing(rows, form)?;
+    if row.role == Role::LeftOut {
+        return Some(row.name);
+    }
+    row.content.leaves_out(content)
+}
+
+/// The first text of E307: the first clause, or the first word of one, that is left out
+/// (docs/REFUSALS.md).
+fn first_left_out<C: ContentKind>(rows: &[Row<C>], elements: &[Form]) -> Option<&'static [u8]>
+    ensures { option_copied result ≡ first (left_out C.leaves_out (map seen rows.now) elements.now) }
+{
+    for element in elements {
+        if let Some(text) = left_out_at(rows, element) {
+            return Some(text);
+        }
+    }
+    None
+}
+
+/// The least fault of the clauses of a form, which are the elements behind its head, by the
+/// form's table: E302, E303, E304 or E307, by number and then by place. None exactly where they
+/// have no such fault (docs/REFUSALS.md).
+pub fn clause_fault<'a, C: ContentKind>(rows: &[Row<C>], elements: &'a [Form]) -> Option<Fault<'a>>
+    ensures { option_map seen_fault result ≡ least (clause_faults C.fits C.leaves_out (map seen rows.now) elements.now) }
+{
+    if let Some(text) = first_misplaced(rows, elements) {
+        return Some(Fault { number: 302, text });
+    }
+    if let Some(text) = first_absent(rows, elements) {
+        return Some(Fault { number: 303, text });
+    }
+    if let Some(text) = first_wrong(rows, elements) {
+        return Some(Fault { number: 304, text });
+    }
+    if let Some(text) = first_left_out(rows, elements) {
+        return Some(Fault { number: 307, text });
     }
     None
 }

@@ -2,15 +2,13 @@
 
 ghost use Rattle.std.specs.Prelude.{◌≡◌, pos, Some};
 ghost use Rattle.std.specs.Option.{option_copied};
-ghost use Rattle.cg_attrs.specs.Parts.{only_symbol, only_natural, passes};
-ghost use Rattle.cg_attrs.specs.Contents.{is_alignment, is_endian, is_bit_size, is_word_size, is_positive, is_cycles, is_unit, is_item_name, valued, item_value, next_value, are_items, fits, either, left_out_content, fits_argument};
+ghost use Rattle.cg_base.specs.Parts.{only_symbol, only_natural};
+ghost use Rattle.cg_attrs.specs.Tests.{passes};
+ghost use Rattle.cg_attrs.specs.Contents.{is_alignment, is_endian, is_bit_size, is_word_size, is_positive, is_cycles, is_unit, is_item_name, valued, item_value, next_value, are_items, fits, either, leaves_out, fits_argument};
 
 use crate::attr::are_attrs;
-use crate::parts::{
-    are_symbols, is_symbol, items, natural, number, only_flag, only_natural, only_symbol,
-    only_word, word,
-};
-use cg_base::Form;
+use crate::clauses::ContentKind;
+use cg_base::{Form, are_symbols, only_flag, only_natural, only_symbol, only_word};
 
 /// What has to stand behind a clause's name (docs/LANGUAGE.md, "Forms and clauses").
 #[derive(Clone, Copy, Debug, PartialEq, Eq)]
@@ -44,6 +42,22 @@ pub(crate) enum Content {
     Attributes,
     /// Anything.
     Anything,
+}
+
+impl ContentKind for Content {
+    ghost use Rattle.cg_attrs.specs.Contents as contents;
+
+    ghost fits = { contents.fits };
+
+    ghost leaves_out = { contents.leaves_out };
+
+    fn fits(&self, forms: &[Form]) -> bool {
+        fits(*self, forms)
+    }
+
+    fn leaves_out(&self, forms: &[Form]) -> Option<&'static [u8]> {
+        leaves_out(*self, forms)
+    }
 }
 
 /// Whether the text names what happens to accesses that are not aligned.
@@ -114,7 +128,7 @@ fn fits_positive(forms: &[Form]) -> bool
 fn is_cycles(form: &Form) -> bool
     ensures { result ≡ is_cycles form.now }
 {
-    match natural(form) {
+    match form.natural() {
         Some(cycles) => cycles <= 65535,
         None => false,
     }
@@ -125,7 +139,7 @@ fn is_unit(forms: &[Form]) -> bool
     ensures { result ≡ is_unit forms.now }
 {
     match forms {
-        [name, _, _, _, done, _, _, _, _] => is_symbol(name) && is_cycles(done),
+        [name, _, _, _, done, _, _, _, _] => name.is_symbol() && is_cycles(done),
         _ => false,
     }
 }
@@ -134,7 +148,7 @@ fn is_unit(forms: &[Form]) -> bool
 fn is_item_name(form: &Form) -> bool
     ensures { result ≡ is_item_name form.now }
 {
-    word(form).is_some() || number(form).is_some()
+    form.word().is_some() || form.number().is_some()
 }
 
 /// The value of an item `(name value ..)`.
@@ -142,7 +156,7 @@ fn valued(forms: &[Form]) -> Option<i64>
     ensures { result ≡ valued forms.now }
 {
     match forms {
-        [name, value, ..] if is_item_name(name) => number(value),
+        [name, value, ..] if is_item_name(name) => value.number(),
         _ => None,
     }
 }
@@ -185,7 +199,7 @@ fn are_items(forms: &[Form]) -> bool
 
 /// Whether what stands behind a clause's name is of its kind. `either` of an endian is, and is
 /// left out.
-pub(crate) fn fits(content: Content, forms: &[Form]) -> bool
+fn fits(content: Content, forms: &[Form]) -> bool
     ensures { result ≡ fits content forms.now }
 {
     match content {
@@ -206,8 +220,8 @@ pub(crate) fn fits(content: Content, forms: &[Form]) -> bool
 }
 
 /// What is left out of what stands behind a clause's name: `either` of an endian.
-pub(crate) fn left_out_content(content: Content, forms: &[Form]) -> Option<&'static [u8]>
-    ensures { option_copied result ≡ left_out_content content forms.now }
+fn leaves_out(content: Content, forms: &[Form]) -> Option<&'static [u8]>
+    ensures { option_copied result ≡ leaves_out content forms.now }
 {
     match content {
         Content::Endian => either(forms),
@@ -234,8 +248,8 @@ pub(crate) fn fits_argument(content: Content, form: &Form) -> bool
     ensures { result ≡ fits_argument content form.now }
 {
     match content {
-        Content::Attributes | Content::Items => match items(form) {
-            Some(items) => fits(content, items),
+        Content::Attributes | Content::Items => match form.elements() {
+            Some(elements) => fits(content, elements),
             None => false,
         },
         _ => fits(content, std::slice::from_ref(form)),

@@ -2,91 +2,22 @@
 
 ghost use Rattle.std.specs.Prelude.{◌≡◌, map, slice_get, Some};
 ghost use Rattle.std.specs.Option.{option_copied, option_map};
-ghost use Rattle.cg_attrs.specs.Parts.{first, clause_of};
+ghost use Rattle.cg_base.specs.Parts.{headed};
 ghost use Rattle.cg_attrs.specs.Clauses.{seen};
-ghost use Rattle.cg_attrs.specs.Faults.{seen_fault, least};
-ghost use Rattle.cg_attrs.specs.Judging.{wrong_at, wrong, left_out_at, left_out, heading, extra, missing, wrong_arguments, clause_faults, argument_faults, faults_of, Judged};
+ghost use Rattle.cg_attrs.specs.Faults.{first, seen_fault, least};
+ghost use Rattle.cg_attrs.specs.Judging.{heading, extra, missing, wrong_arguments, argument_faults, faults_of, Judged};
 
-use crate::clauses::{Role, Row, first_absent, first_misplaced, standing};
-use crate::content::{Content, fits, fits_argument, left_out_content};
+use crate::clauses::{Row, clause_fault};
+use crate::content::{Content, fits_argument};
 use crate::fault::Fault;
-use crate::parts::clause;
 use crate::table::{Kind, kind_named, rows_of};
 use cg_base::Form;
-
-/// The name of a clause whose content isn't of its kind.
-#[tactic(auto, unfolding(crate::specs::Judging::wrong_at))]
-fn wrong_at(rows: &[Row<Content>], form: &Form) -> Option<&'static [u8]>
-    ensures { option_copied result ≡ wrong_at (map seen rows.now) form.now }
-{
-    let (row, content) = standing(rows, form)?;
-    if fits(row.content, content) {
-        None
-    } else {
-        Some(row.name)
-    }
-}
-
-/// The first text of E304: the name of the first clause whose content isn't of its kind.
-fn first_wrong(rows: &[Row<Content>], elements: &[Form]) -> Option<&'static [u8]>
-    ensures { option_copied result ≡ first (wrong (map seen rows.now) elements.now) }
-{
-    for element in elements {
-        if let Some(text) = wrong_at(rows, element) {
-            return Some(text);
-        }
-    }
-    None
-}
-
-/// The name of a clause that is left out, or what is left out of its content.
-#[tactic(auto, unfolding(crate::specs::Judging::left_out_at))]
-fn left_out_at(rows: &[Row<Content>], form: &Form) -> Option<&'static [u8]>
-    ensures { option_copied result ≡ left_out_at (map seen rows.now) form.now }
-{
-    let (row, content) = standing(rows, form)?;
-    if row.role == Role::LeftOut {
-        return Some(row.name);
-    }
-    left_out_content(row.content, content)
-}
-
-/// The first text of E307: the first clause, or the first word of one, that is left out.
-fn first_left_out(rows: &[Row<Content>], elements: &[Form]) -> Option<&'static [u8]>
-    ensures { option_copied result ≡ first (left_out (map seen rows.now) elements.now) }
-{
-    for element in elements {
-        if let Some(text) = left_out_at(rows, element) {
-            return Some(text);
-        }
-    }
-    None
-}
-
-/// The least fault of the clauses of a form.
-fn clause_fault<'a>(rows: &[Row<Content>], elements: &'a [Form]) -> Option<Fault<'a>>
-    ensures { option_map seen_fault result ≡ least (clause_faults (map seen rows.now) elements.now) }
-{
-    if let Some(text) = first_misplaced(rows, elements) {
-        return Some(Fault { number: 302, text });
-    }
-    if let Some(text) = first_absent(rows, elements) {
-        return Some(Fault { number: 303, text });
-    }
-    if let Some(text) = first_wrong(rows, elements) {
-        return Some(Fault { number: 304, text });
-    }
-    if let Some(text) = first_left_out(rows, elements) {
-        return Some(Fault { number: 307, text });
-    }
-    None
-}
 
 /// The symbol that heads a list, else `clause`.
 fn heading(form: &Form) -> &[u8]
     ensures { result.now ≡ heading form.now }
 {
-    match clause(form) {
+    match form.headed() {
         Some((name, _)) => name.as_slice(),
         None => b"clause",
     }
@@ -187,9 +118,9 @@ fn judged_headed<'a>(head: &'a [u8], elements: &'a [Form]) -> Result<(Kind, &'a 
 /// Which form that frames a machine this is, and the elements behind its head, where it has no
 /// fault. Otherwise its least fault.
 pub(crate) fn judged(form: &Form) -> Result<(Kind, &[Form]), Fault<'_>>
-    ensures { Judged (clause_of form.now) result }
+    ensures { Judged (headed form.now) result }
 {
-    match clause(form) {
+    match form.headed() {
         Some((head, elements)) => judged_headed(head.as_slice(), elements),
         None => Err(Fault {
             number: 301,

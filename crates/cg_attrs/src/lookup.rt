@@ -5,13 +5,12 @@ ghost use Rattle.std.specs.Prelude.{◌≡◌, pos, [], ◌++◌, map, slice_get
 ghost use Rattle.std.specs.Option.{option_copied, option_map, unwrap_or};
 ghost use Rattle.std.specs.List.{filter_map};
 ghost use Rattle.cg_base.specs.declared.form.Form.TheVariants.{Items};
-ghost use Rattle.cg_attrs.specs.Parts.{symbol_of};
+ghost use Rattle.cg_base.specs.Parts.{symbol_of};
 ghost use Rattle.cg_attrs.specs.Lookups.{symbol_at, word_at, flag_at, number_at, content_or_none, wanted_symbol, wanted_number, wanted_symbols, optional_symbols, wanted_form, optional_form, attrs_at, unit_of, units};
 
 use crate::attr::{Attr, attrs_among};
 use crate::clauses::{content, content_at, stands_as};
-use crate::parts::{only_flag, only_number, only_symbol, only_word, symbol};
-use cg_base::{Form, List, NoMemory, Text};
+use cg_base::{Form, List, NoMemory, Text, only_flag, only_number, only_symbol, only_word};
 use std::alloc::Global;
 
 /// A text in memory of its own, empty for none.
@@ -110,7 +109,7 @@ fn texts(alloc: Global, forms: &[Form]) -> Result<List<Text>, NoMemory>
 {
     let mut texts = List::new(alloc);
     for form in forms {
-        if let Some(text) = symbol(form) {
+        if let Some(text) = form.symbol() {
             texts.push(text.clone()?)?;
         }
     }
@@ -174,8 +173,10 @@ pub(crate) fn optional_form(
     }
 }
 
-/// The attributes of a form, none where its clause is absent.
-pub(crate) fn attrs_at(alloc: Global, elements: &[Form]) -> Result<List<Attr>, NoMemory>
+/// What the clause `attrs` among the elements behind a form's head says: attributes, and none
+/// where it is absent. An element of the clause that is no attribute is left out, which is E304
+/// of the form.
+pub fn attrs_at(alloc: Global, elements: &[Form]) -> Result<List<Attr>, NoMemory>
     ensures { IfOk result (λ attrs. attrs ≡ attrs_at elements.now) }
 {
     attrs_among(alloc, content_or_none(elements, b"attrs"))

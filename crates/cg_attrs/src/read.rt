@@ -4,7 +4,7 @@ ghost use Rattle.std.specs.Prelude.{◌≡◌, IfOk};
 ghost use Rattle.std.specs.Option.{option_copied};
 ghost use Rattle.cg_attrs.specs.Faults.{least, Answers};
 ghost use Rattle.cg_attrs.specs.Judging.{frame_faults};
-ghost use Rattle.cg_attrs.specs.Frames.{arch_of, isa_of, cpu_of, mach_of, model_of, attr_def_of, enum_of, insn_enum_of, keyword_of, symbol_by_place, word_by_place, list_by_place, items_by_place, frame_in, frame_of};
+ghost use Rattle.cg_attrs.specs.Frames.{arch_of, isa_of, cpu_of, mach_of, model_of, attr_def_of, enum_of, insn_enum_of, keyword_of, symbol_by_place, word_by_place, elements_by_place, elements_or_none, frame_in, frame_of};
 
 use crate::attr::attrs_among;
 use crate::fault::refusal;
@@ -18,7 +18,6 @@ use crate::lookup::{
     optional_symbols, optional_word, text_or_none, units, wanted_form, wanted_number,
     wanted_symbol, wanted_symbols,
 };
-use crate::parts::{items, symbol, word};
 use crate::table::Kind;
 use cg_base::{Form, NoMemory, Stop, Text, Top};
 use std::alloc::Global;
@@ -124,7 +123,7 @@ fn keyword(alloc: Global, elements: &[Form]) -> Result<KeywordForm, NoMemory>
 fn symbol_by_place(arguments: &[Form], place: usize) -> Option<&Text>
     ensures { option_copied result ≡ symbol_by_place place arguments.now }
 {
-    symbol(nth(arguments, place)?)
+    nth(arguments, place)?.symbol()
 }
 
 /// The text of the argument at a place, a symbol or a string.
@@ -132,23 +131,23 @@ fn symbol_by_place(arguments: &[Form], place: usize) -> Option<&Text>
 fn word_by_place(arguments: &[Form], place: usize) -> Option<&Text>
     ensures { option_copied result ≡ word_by_place place arguments.now }
 {
-    word(nth(arguments, place)?)
+    nth(arguments, place)?.word()
 }
 
 /// The elements of the argument at a place, a list.
-#[tactic(auto, unfolding(crate::specs::Frames::list_by_place))]
-fn list_by_place(arguments: &[Form], place: usize) -> Option<&[Form]>
-    ensures { option_copied result ≡ list_by_place place arguments.now }
+#[tactic(auto, unfolding(crate::specs::Frames::elements_by_place))]
+fn elements_by_place(arguments: &[Form], place: usize) -> Option<&[Form]>
+    ensures { option_copied result ≡ elements_by_place place arguments.now }
 {
-    items(nth(arguments, place)?)
+    nth(arguments, place)?.elements()
 }
 
 /// The elements of the argument at a place, which is a list.
-fn items_by_place(arguments: &[Form], place: usize) -> &[Form]
-    ensures { result.now ≡ items_by_place place arguments.now }
+fn elements_or_none(arguments: &[Form], place: usize) -> &[Form]
+    ensures { result.now ≡ elements_or_none place arguments.now }
 {
-    match list_by_place(arguments, place) {
-        Some(items) => items,
+    match elements_by_place(arguments, place) {
+        Some(elements) => elements,
         None => &[],
     }
 }
@@ -160,8 +159,8 @@ fn insn_enum(alloc: Global, arguments: &[Form]) -> Result<InsnEnumForm, NoMemory
         name: text_or_none(alloc, symbol_by_place(arguments, 0))?,
         prefix: text_or_none(alloc, word_by_place(arguments, 3))?,
         field: text_or_none(alloc, symbol_by_place(arguments, 4))?,
-        values: list_of(alloc, items_by_place(arguments, 5))?,
-        attrs: attrs_among(alloc, items_by_place(arguments, 2))?,
+        values: list_of(alloc, elements_or_none(arguments, 5))?,
+        attrs: attrs_among(alloc, elements_or_none(arguments, 2))?,
     })
 }
 

@@ -7,4 +7,4 @@ pub mod Grammar
 pub mod Faults
 pub mod Reading
 pub mod Printing
-pub mod Clauses
+pub mod Parts

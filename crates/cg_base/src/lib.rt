@@ -9,6 +9,7 @@ mod list;
 mod mode;
 mod number;
 mod operation;
+mod parts;
 mod refusal;
 #[cfg(test)]
 mod tests;
@@ -21,5 +22,6 @@ pub use list::List;
 pub use mode::{Endian, Mode, bits, signed};
 pub use number::{decimal, hex, read_digits, read_number};
 pub use operation::{BinaryOp, DivideByZero, TernaryOp, UnaryOp, binary, convert, ternary, unary};
+pub use parts::{are_symbols, only, only_flag, only_natural, only_number, only_symbol, only_word};
 pub use refusal::{NoMemory, Refusal, Stop};
 pub use text::Text;

@@ -6,7 +6,7 @@ use Rattle.cg_base.specs.declared.Mode.TheVariants.{Si, Usi}
 use Rattle.cg_model.specs.declared.field.Field.{Field}
 use Rattle.cg_model.specs.declared.field.Multi.{Multi}
 use Rattle.cg_model.specs.declared.hardware.Hardware.{Hardware}
-use Rattle.cg_model.specs.declared.hardware.HwKind.TheVariants.{Register, Immediate}
+use Rattle.cg_model.specs.declared.hardware.HwKind.TheVariants.{Register}
 use Rattle.cg_model.specs.declared.insn.Insn.{Insn}
 use Rattle.cg_model.specs.declared.insn.Part.{Part}
 use Rattle.cg_model.specs.declared.insn.Part.TheVariants.{Constant, Slot}

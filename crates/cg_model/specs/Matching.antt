@@ -6,10 +6,8 @@ use Rattle.cg_model.specs.declared.insn.Insn.{Insn}
 use Rattle.cg_model.specs.declared.insn.Part.{Part}
 use Rattle.cg_model.specs.declared.insn.Part.TheVariants.{Constant, Slot}
 use Rattle.cg_model.specs.declared.machine.Machine.{Machine}
-use Rattle.cg_model.specs.declared.operand.Operand.{Operand}
 use Rattle.cg_model.specs.declared.operand.Source.{Source}
 use Rattle.cg_model.specs.declared.operand.Source.TheVariants as source
-use Rattle.cg_model.specs.declared.field.Multi.{Multi}
 use Rattle.cg_model.specs.Pure.{pure_value}
 use Rattle.cg_model.specs.Fields.{bits_at, around_fields}
 

@@ -1,7 +1,8 @@
 -- What a pure expression gives: the rules of fields and the assertions of instructions are such expressions. They set nothing,
 -- ask no device and cannot trap.
-use Rattle.std.specs.Prelude.{ℕ, suc, ◌+◌, ◌-◌, ◌*◌, ◌/◌, ◌%◌, ◌^◌, Bool, true, false, not, ◌&&◌, ◌||◌, ◌==◌, if◌then◌else◌, List, [], ◌∷◌, length, ℤ, pos, unsigned_abs, Option, Some, None, slice_get}
+use Rattle.std.specs.Prelude.{ℕ, suc, ◌+◌, ◌-◌, ◌*◌, ◌/◌, ◌%◌, ◌^◌, Bool, true, false, not, ◌||◌, ◌==◌, if◌then◌else◌, List, [], ◌∷◌, length, ℤ, pos, unsigned_abs, Option, Some, None, slice_get}
 use Rattle.std.specs.List.{list_any, list_all}
+use Rattle.std.specs.Option.{option_or, unwrap_or}
 use Rattle.std.proofs.Common.{zero}
 use Rattle.cg_base.specs.declared.Mode.{Mode}
 use Rattle.cg_base.specs.declared.Mode.TheVariants.{Bi, Qi, Hi, Si, Di, Uqi, Uhi, Usi, Udi, Void}
@@ -12,7 +13,7 @@ use Rattle.cg_base.specs.declared.BinaryOp.TheVariants.{Add, Sub, Mul, Div, Udiv
 use Rattle.cg_base.specs.declared.TernaryOp.{TernaryOp}
 use Rattle.cg_base.specs.declared.TernaryOp.TheVariants.{Addc, Subc, AddCflag, AddOflag, SubCflag, SubOflag}
 use Rattle.cg_base.specs.Modes.{bits_of}
-use Rattle.cg_base.specs.Operations.{wrapped, as_signed, flag, unary_value, binary_value, ternary_value}
+use Rattle.cg_base.specs.Operations.{wrapped, as_signed, flag, takes_count, unary_value, binary_value, ternary_value}
 use Rattle.cg_model.specs.declared.rtl.Op.{Op}
 use Rattle.cg_model.specs.declared.rtl.Op.TheVariants as op
 use Rattle.cg_model.specs.declared.rtl.Rtl.{Rtl}
@@ -64,14 +65,6 @@ pub record Meaning : Type 0 where
 abbrev pub firm : (Option Mode → Judged) → Meaning
 firm gives = record { loose = false; constant = pos 0; tests = []; gives = gives }
 
-abbrev pub first_of : {A : Type 0} → Option A → Option A → Option A
-first_of (Some x) y = Some x
-first_of None y = y
-
-abbrev pub or_else : {A : Type 0} → Option A → A → A
-or_else (Some x) y = x
-or_else None y = y
-
 -- The mode wanted of an expression of which any mode will do: a loose one takes UINT.
 abbrev pub any_mode : Meaning → Option Mode
 any_mode x = if x.loose then Some Usi else None
@@ -87,7 +80,7 @@ first_firm want (x ∷ xs) = if x.loose then first_firm want xs else Some (x.giv
 -- The mode that operands agree on: the one that is written, else that of the first operand that isn't loose, else the wanted
 -- one, else the word's.
 abbrev pub agreed : Around → Option Mode → Option Mode → List Meaning → Mode
-agreed a written want xs = or_else (first_of written (first_of (first_firm want xs) want)) (word_mode a.word_bits)
+agreed a written want xs = unwrap_or (option_or written (option_or (first_firm want xs) want)) (word_mode a.word_bits)
 
 -- An operand's value where the operands agree on a mode: a loose one takes it.
 abbrev pub operand : Mode → Option Mode → Meaning → ℕ
@@ -105,14 +98,6 @@ ternary_ops = Addc ∷ Subc ∷ AddCflag ∷ AddOflag ∷ SubCflag ∷ SubOflag 
 -- The operation at a place of its list.
 abbrev pub named_op : {A : Type 0} → List A → ℤ → Option A
 named_op ops n = slice_get ops (unsigned_abs n)
-
-abbrev pub is_shift : BinaryOp → Bool
-is_shift Sll = true
-is_shift Srl = true
-is_shift Sra = true
-is_shift Rol = true
-is_shift Ror = true
-is_shift _ = false
 
 abbrev pub is_comparison : BinaryOp → Bool
 is_comparison Eq = true
@@ -136,22 +121,22 @@ keeps_mode _ = false
 abbrev pub unary_gives : Around → Option UnaryOp → Option Mode → List Meaning → Option Mode → Judged
 unary_gives a (Some Not) written (x ∷ []) want = judged Bi (unary_value Not (bits_of (x.gives (any_mode x)).mode) (any_value x))
 unary_gives a (Some o) written (x ∷ []) want =
-    let mode = agreed a written want (x ∷ []) in judged mode (unary_value o (bits_of mode) (operand mode (first_of written want) x))
+    let mode = agreed a written want (x ∷ []) in judged mode (unary_value o (bits_of mode) (operand mode (option_or written want) x))
 unary_gives a _ written xs want = no_value
 
 -- The operands of a comparison agree where none is wanted, and one bit comes of them. The count of a shift has any mode.
 abbrev pub binary_gives : Around → BinaryOp → Option Mode → Meaning → Meaning → Option Mode → Judged
 binary_gives a o written x y want =
-    if is_shift o then (let mode = agreed a written want (x ∷ []) in judged mode (binary_value o (bits_of mode) (operand mode (first_of written want) x) (any_value y)))
+    if takes_count o then (let mode = agreed a written want (x ∷ []) in judged mode (binary_value o (bits_of mode) (operand mode (option_or written want) x) (any_value y)))
     else if is_comparison o then (let mode = agreed a written None (x ∷ y ∷ []) in judged Bi (binary_value o (bits_of mode) (operand mode written x) (operand mode written y)))
-    else (let mode = agreed a written want (x ∷ y ∷ []) in judged mode (binary_value o (bits_of mode) (operand mode (first_of written want) x) (operand mode (first_of written want) y)))
+    else (let mode = agreed a written want (x ∷ y ∷ []) in judged mode (binary_value o (bits_of mode) (operand mode (option_or written want) x) (operand mode (option_or written want) y)))
 
 -- The carry is one bit. The flags are one bit too, and their operands agree where none is wanted.
 abbrev pub ternary_gives : Around → TernaryOp → Option Mode → Meaning → Meaning → Meaning → Option Mode → Judged
 ternary_gives a o written x y c want =
     let wanted = if keeps_mode o then want else None in
     let mode = agreed a written wanted (x ∷ y ∷ []) in
-    let value = ternary_value o (bits_of mode) (operand mode (first_of written wanted) x) (operand mode (first_of written wanted) y) (c.gives (Some Bi)).value in
+    let value = ternary_value o (bits_of mode) (operand mode (option_or written wanted) x) (operand mode (option_or written wanted) y) (c.gives (Some Bi)).value in
     judged (if keeps_mode o then mode else Bi) value
 
 -- The parts side by side, the first the most significant, each in the mode of the parts.
@@ -179,7 +164,7 @@ taken holds (arm ∷ arms) = if is_else arm || list_any holds arm.tests then Som
 
 -- The arms' values agree as operands do. Where no arm need be taken there is no value.
 abbrev pub arms_give : Around → Option Mode → List Meaning → Option Meaning → Bool → Option Mode → Judged
-arms_give a written arms (Some arm) true want = let mode = agreed a written want arms in judged mode (operand mode (first_of written want) arm)
+arms_give a written arms (Some arm) true want = let mode = agreed a written want arms in judged mode (operand mode (option_or written want) arm)
 arms_give a written arms _ _ want = no_value
 
 -- A test that isn't 0 holds.
@@ -204,13 +189,13 @@ last_of x (y ∷ ys) = last_of y ys
 
 -- What an expression gives, from what its items give.
 abbrev pub meaning_of : Around → Op → Option Mode → ℤ → List Meaning → Meaning
-meaning_of a op.Number None n xs = record { loose = true; constant = n; tests = []; gives = λ want. let mode = or_else want (word_mode a.word_bits) in judged mode (wrapped (bits_of mode) n) }
+meaning_of a op.Number None n xs = record { loose = true; constant = n; tests = []; gives = λ want. let mode = unwrap_or want (word_mode a.word_bits) in judged mode (wrapped (bits_of mode) n) }
 meaning_of a op.Number (Some mode) n xs = record { loose = false; constant = n; tests = []; gives = λ want. judged mode (wrapped (bits_of mode) n) }
-meaning_of a op.Value written n xs = firm (λ want. judged (or_else written Void) a.value)
+meaning_of a op.Value written n xs = firm (λ want. judged (unwrap_or written Void) a.value)
 meaning_of a op.Pc written n xs = firm (λ want. judged (address_mode a.word_bits) a.pc)
 meaning_of a op.FieldRef written n xs = firm (λ want. a.field (unsigned_abs n))
 meaning_of a op.MultiRef written n xs = firm (λ want. a.multi (unsigned_abs n))
-meaning_of a op.Declare written n xs = firm (λ want. judged (or_else written Void) 0)
+meaning_of a op.Declare written n xs = firm (λ want. judged (unwrap_or written Void) 0)
 meaning_of a op.Unary written n xs = firm (unary_gives a (named_op unary_ops n) written xs)
 meaning_of a op.Binary written n (x ∷ y ∷ []) = firm (elim (named_op binary_ops n) [ Some o ↦ binary_gives a o written x y | None ↦ λ want. no_value ])
 meaning_of a op.Ternary written n (x ∷ y ∷ c ∷ []) = firm (elim (named_op ternary_ops n) [ Some o ↦ ternary_gives a o written x y c | None ↦ λ want. no_value ])

@@ -1,5 +1,5 @@
 -- What stands in front of some bytes.
-use Rattle.std.specs.Prelude.{◌≡◌, ℕ, suc, ◌+◌, ◌<◌, Bool, true, false, ◌==◌, List, [], ◌∷◌, ◌++◌, length, Option, Some, None, Result, Ok, Err, codes, refl}
+use Rattle.std.specs.Prelude.{◌≡◌, ℕ, Bool, true, false, ◌==◌, List, [], ◌∷◌, ◌++◌, Option, Some, None, Result, Ok, Err, refl}
 use Rattle.std.proofs.Common.{arith, append_assoc, ◌∙◌, ap, sym, subst}
 use Rattle.std.proofs.lemmas.Bool.{eqb-true}
 use Rattle.std.proofs.lemmas.Bool.Decides.{nat_tests}
@@ -8,10 +8,9 @@ use Rattle.cg_base.specs.declared.kind.Kind.{Kind}
 use Rattle.cg_base.specs.declared.kind.Kind.TheVariants.{Blank, Letter, Opening, Closing, Quote, Semicolon, Foreign}
 use Rattle.cg_base.specs.declared.kind.NoToken.{NoToken}
 use Rattle.cg_base.specs.declared.form.Form.{Form}
-use Rattle.cg_base.specs.declared.form.Form.TheVariants.{Str}
 use Rattle.cg_base.specs.declared.refusal.Refusal.{Refusal}
-use Rattle.cg_base.specs.Grammar.{IsSpace, blank, comment, IsLeaf, word, quoted, Written, empty, byte, escaped, kind_of, is_letter, AreLetters, starts_token, token, is_string_byte, escape, IsInOneLine, line_after}
-use Rattle.cg_base.specs.Faults.{Offends, foreign_byte, no_token, foreign_in_string, no_escape, open_string, refusal, refused_as, hex_byte}
+use Rattle.cg_base.specs.Grammar.{IsSpace, blank, comment, IsLeaf, word, quoted, Written, empty, byte, escaped, kind_of, is_letter, AreLetters, starts_token, token, is_string_byte, escape, IsInOneLine}
+use Rattle.cg_base.specs.Faults.{Offends, foreign_byte, no_token, foreign_in_string, no_escape, open_string}
 
 -- The last byte ends a line; where there is no byte, it is as told.
 abbrev pub line_ends : Bool → List ℕ → Bool

@@ -1,5 +1,5 @@
 -- A text has one list of forms or one first fault, and the reader gives it.
-use Rattle.std.specs.Prelude.{◌≡◌, ℕ, ◌+◌, ◌⊎◌, true, List, [], ◌∷◌, ◌++◌, map, Result, Ok, Err, refl}
+use Rattle.std.specs.Prelude.{◌≡◌, ℕ, ◌⊎◌, true, List, [], ◌∷◌, ◌++◌, map, Result, Ok, Err, refl}
 use Rattle.std.specs.List.{zip}
 use Rattle.std.proofs.Common.{append_assoc, ◌∙◌, ap, sym, subst, inl, inr}
 use Rattle.std.proofs.lemmas.List.{append-nil}
@@ -8,11 +8,9 @@ use Rattle.cg_base.specs.declared.form.Form.TheVariants.{Items}
 use Rattle.cg_base.specs.declared.form.Top.{Top}
 use Rattle.cg_base.specs.declared.form.Forms.{Forms}
 use Rattle.cg_base.specs.declared.refusal.Refusal.{Refusal}
-use Rattle.cg_base.specs.declared.refusal.Stop.{Stop}
-use Rattle.cg_base.specs.declared.refusal.Stop.TheVariants.{Refused, NoMemory}
 use Rattle.cg_base.specs.Grammar.{Spells, done, space, leaf, list}
 use Rattle.cg_base.specs.Reading.{top, ended, Reads, IsFault}
-use Rattle.cg_sexp.specs.Machine.{Nest, whole, between, ends, empty_nest, read_all}
+use Rattle.cg_sexp.specs.Machine.{whole, between, ends, empty_nest, read_all}
 use Rattle.cg_sexp.specs.Taken.{takes, puts}
 use Rattle.cg_sexp.specs.Stops.{fault_stops}
 use Rattle.cg_sexp.specs.Front.{line_ends, line_ends-append}

@@ -1,7 +1,7 @@
 -- The reader's steps, one byte at a time.
-use Rattle.std.specs.Prelude.{ℕ, ◌==◌, nat_lt, if◌then◌else◌, List, [], ◌∷◌, ◌++◌, length, map, Option, Some, None, Result, Ok, Err, codes}
+use Rattle.std.specs.Prelude.{ℕ, ◌==◌, nat_lt, if◌then◌else◌, List, [], ◌∷◌, ◌++◌, length, Option, Some, None, Result, Ok, Err, codes}
 use Rattle.cg_base.specs.declared.kind.Kind.{Kind}
-use Rattle.cg_base.specs.declared.kind.Kind.TheVariants.{Blank, Letter, Opening, Closing, Quote, Semicolon, Foreign}
+use Rattle.cg_base.specs.declared.kind.Kind.TheVariants.{Blank, Opening, Closing, Quote, Semicolon}
 use Rattle.cg_base.specs.declared.kind.NoToken.{NoToken}
 use Rattle.cg_base.specs.declared.form.Form.{Form}
 use Rattle.cg_base.specs.declared.form.Form.TheVariants.{Str, Items}

@@ -1,23 +1,21 @@
 -- What is printed of readable forms spells them.
-use Rattle.std.specs.Prelude.{◌≡◌, ℕ, suc, ◌+◌, ◌-◌, ◌<◌, ◌≤◌, ◌^◌, Bool, true, false, ◌&&◌, ◌||◌, ◌==◌, nat_lt, nat_le, if◌then◌else◌, List, [], ◌∷◌, ◌++◌, length, map, Some, Ok, codes, pos, negsuc, refl}
-use Rattle.std.specs.List.{list_all, zip}
+use Rattle.std.specs.Prelude.{◌≡◌, ℕ, suc, ◌-◌, ◌<◌, ◌^◌, Bool, true, false, ◌||◌, ◌==◌, nat_lt, nat_le, if◌then◌else◌, List, [], ◌∷◌, ◌++◌, length, map, Some, Ok, codes, pos, negsuc, refl}
+use Rattle.std.specs.List.{list_all}
 use Rattle.std.specs.Char.{digit_value}
-use Rattle.std.specs.Int.{IsInRange}
 use Rattle.std.specs.Fmt.{decimal, signed_decimal}
 use Rattle.std.specs.Str.Parse.{AllDigits, digits_value}
 use Rattle.std.proofs.Common.{arith, append_assoc, ◌∙◌, ap, sym, subst}
 use Rattle.std.proofs.lemmas.List.{append-nil}
-use Rattle.std.proofs.lemmas.Bool.{eqb-true}
 use Rattle.std.proofs.lemmas.Bool.Decides.{nat_tests}
 use Rattle.std.proofs.lemmas.Fmt.{decimal_is_IsNumeral}
 use Rattle.std.proofs.lemmas.Str.Parse.{digit_from_value}
 use Rattle.cg_base.specs.declared.kind.Kind.TheVariants.{Letter}
 use Rattle.cg_base.specs.declared.form.Form.{Form}
 use Rattle.cg_base.specs.declared.form.Form.TheVariants as form
-use Rattle.cg_base.specs.declared.form.Form.TheOpen.{Form-F, Number, Symbol, Str, Flag, Items}
+use Rattle.cg_base.specs.declared.form.Form.TheOpen.{Number, Symbol, Str, Flag, Items}
 use Rattle.cg_base.specs.declared.form.Form.TheFolds.{fold-roll-Form}
 use Rattle.cg_base.specs.Numerals.{is_digit_of}
-use Rattle.cg_base.specs.Grammar.{kind_of, AreLetters, starts_token, are_digits, positive, negative, token, is_string_byte, escape, Written, empty, byte, escaped, IsSpace, blank, IsLeaf, word, quoted, Spells, done, space, leaf, list, next_line, line_after}
+use Rattle.cg_base.specs.Grammar.{kind_of, AreLetters, starts_token, are_digits, positive, negative, token, is_string_byte, escape, Written, empty, byte, escaped, blank, IsLeaf, word, quoted, Spells, done, space, leaf, list, line_after}
 use Rattle.cg_base.specs.Reading.{top, ended, Reads}
 use Rattle.cg_sexp.specs.Taken.{leaf_before}
 use Rattle.cg_base.specs.Printing as r

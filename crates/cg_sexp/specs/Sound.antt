@@ -1,8 +1,8 @@
 -- What the reader's steps give is spelled, and where they stop is the first fault.
-use Rattle.std.specs.Prelude.{◌≡◌, ℕ, suc, ◌+◌, ◌<◌, ◌≤◌, Bool, true, false, ◌==◌, nat_lt, List, [], ◌∷◌, ◌++◌, length, Option, Some, None, Result, Ok, Err, codes, refl}
+use Rattle.std.specs.Prelude.{◌≡◌, ℕ, suc, ◌+◌, ◌≤◌, Bool, true, false, nat_lt, List, [], ◌∷◌, ◌++◌, length, Result, Ok, Err, codes, refl}
 use Rattle.std.proofs.Common.{zero, arith, append_assoc, ◌∙◌, ap, sym, subst}
-use Rattle.std.proofs.lemmas.List.{append-nil, length-append}
-use Rattle.std.proofs.lemmas.Bool.{ltb-true, ltb-false}
+use Rattle.std.proofs.lemmas.List.{length-append}
+use Rattle.std.proofs.lemmas.Bool.{ltb-true}
 use Rattle.cg_base.specs.declared.form.Form.{Form}
 use Rattle.cg_base.specs.declared.form.Form.TheVariants.{Items}
 use Rattle.cg_base.specs.declared.form.Top.{Top}
@@ -10,8 +10,8 @@ use Rattle.cg_base.specs.declared.refusal.Refusal.{Refusal}
 use Rattle.cg_base.specs.Grammar.{Spells, done, space, leaf, list, IsSpace, IsLeaf, word, quoted, starts_token, line_after}
 use Rattle.cg_base.specs.Faults.{Offends, open_list, no_list_is_open, too_deep, Faults, here, behind_space, behind_leaf, behind_opening, behind_closing, refusal}
 use Rattle.cg_sexp.specs.declared.stack.Open.{Open}
-use Rattle.cg_sexp.specs.Machine.{and_then, Nest, put, pushed, opened, closed, put_in, closed_in, whole, whole_in, between, ends}
-use Rattle.cg_sexp.specs.Taken.{line_after-append, space_taken, leaf_taken, puts, depth, put_depth, list_closed}
+use Rattle.cg_sexp.specs.Machine.{and_then, Nest, put, pushed, closed, closed_in, whole, whole_in, between, ends}
+use Rattle.cg_sexp.specs.Taken.{line_after-append, space_taken, leaf_taken, puts, put_depth, list_closed}
 use Rattle.cg_sexp.specs.Stops.{lines_of, lines_length, put_lines, put_file, offence_stops}
 use Rattle.cg_sexp.specs.Front.{line_ends, line_ends-append, ends_anyway, Front, nothing, at_space, at_leaf, at_opening, at_closing, at_fault, front}
 

@@ -1,16 +1,16 @@
 -- The reader's steps stop at the first fault.
-use Rattle.std.specs.Prelude.{◌≡◌, ℕ, suc, ◌+◌, Bool, true, false, ◌==◌, nat_lt, List, [], ◌∷◌, ◌++◌, length, map, Option, Some, None, Result, Ok, Err, codes, refl}
-use Rattle.std.proofs.Common.{arith, append_assoc, ◌∙◌, ap, sym, subst}
-use Rattle.std.proofs.lemmas.List.{append-nil, length-map}
+use Rattle.std.specs.Prelude.{◌≡◌, ℕ, suc, true, false, ◌==◌, nat_lt, List, [], ◌∷◌, length, Ok, Err, codes, refl}
+use Rattle.std.proofs.Common.{arith, ◌∙◌, ap, sym, subst}
+use Rattle.std.proofs.lemmas.List.{append-nil}
 use Rattle.std.proofs.lemmas.Bool.Decides.{nat_tests}
 use Rattle.cg_base.specs.declared.form.Form.{Form}
 use Rattle.cg_base.specs.declared.form.Form.TheVariants.{Items}
 use Rattle.cg_base.specs.declared.form.Top.{Top}
 use Rattle.cg_base.specs.declared.refusal.Refusal.{Refusal}
-use Rattle.cg_base.specs.Grammar.{IsSpace, IsLeaf, Written, kind_of, is_string_byte, escape, line_after}
-use Rattle.cg_base.specs.Faults.{Offends, foreign_byte, no_token, foreign_in_string, no_escape, open_string, open_list, no_list_is_open, too_deep, Faults, here, behind_space, behind_leaf, behind_opening, behind_closing, refusal, refused_as, hex_byte}
+use Rattle.cg_base.specs.Grammar.{is_string_byte, line_after}
+use Rattle.cg_base.specs.Faults.{Offends, foreign_byte, no_token, foreign_in_string, no_escape, open_string, open_list, no_list_is_open, too_deep, Faults, here, behind_space, behind_leaf, behind_opening, behind_closing, refusal}
 use Rattle.cg_sexp.specs.declared.stack.Open.{Open}
-use Rattle.cg_sexp.specs.Machine.{and_then, Nest, put, pushed, opened, closed, put_in, closed_in, whole, whole_in, State, between, in_string, escape_as, ends}
+use Rattle.cg_sexp.specs.Machine.{and_then, Nest, put, pushed, put_in, closed_in, whole_in, between, in_string, escape_as, ends}
 use Rattle.cg_sexp.specs.Taken.{letters_held, token_faults, string_held, space_taken, leaf_taken}
 
 -- The lines of the lists that are open, the innermost first.

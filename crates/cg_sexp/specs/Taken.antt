@@ -1,19 +1,17 @@
 -- What is spelled is what the reader's steps give, and a fault is where they stop.
-use Rattle.std.specs.Prelude.{◌≡◌, ℕ, suc, ◌+◌, Bool, true, false, ◌==◌, nat_lt, List, [], ◌∷◌, ◌++◌, length, map, Option, Some, None, Result, Ok, Err, codes, refl}
-use Rattle.std.proofs.Common.{arith, append_assoc, ◌∙◌, ap, sym, subst}
+use Rattle.std.specs.Prelude.{◌≡◌, ℕ, suc, ◌+◌, true, false, nat_lt, List, [], ◌∷◌, ◌++◌, length, Ok, Err, refl}
+use Rattle.std.proofs.Common.{arith, append_assoc, ◌∙◌, ap, sym}
 use Rattle.std.proofs.lemmas.List.{append-nil}
 use Rattle.std.proofs.lemmas.Bool.Decides.{nat_tests}
-use Rattle.cg_base.specs.declared.kind.Kind.{Kind}
-use Rattle.cg_base.specs.declared.kind.Kind.TheVariants.{Blank, Letter, Opening, Closing, Quote, Semicolon, Foreign}
+use Rattle.cg_base.specs.declared.kind.Kind.TheVariants.{Letter}
 use Rattle.cg_base.specs.declared.kind.NoToken.{NoToken}
 use Rattle.cg_base.specs.declared.form.Form.{Form}
 use Rattle.cg_base.specs.declared.form.Form.TheVariants.{Str, Items}
 use Rattle.cg_base.specs.declared.form.Top.{Top}
-use Rattle.cg_base.specs.declared.refusal.Refusal.{Refusal}
-use Rattle.cg_base.specs.Grammar.{Spells, done, space, leaf, list, IsSpace, blank, comment, IsLeaf, word, quoted, Written, empty, byte, escaped, kind_of, is_letter, AreLetters, starts_token, token, is_string_byte, escape, IsInOneLine, next_line, line_after}
-use Rattle.cg_base.specs.Faults.{Offends, foreign_byte, no_token, foreign_in_string, no_escape, open_string, open_list, no_list_is_open, too_deep, Faults, here, behind_space, behind_leaf, behind_opening, behind_closing, refusal, refused_as, hex_byte}
+use Rattle.cg_base.specs.Grammar.{Spells, done, space, leaf, list, IsSpace, blank, comment, IsLeaf, word, quoted, Written, empty, byte, escaped, kind_of, AreLetters, starts_token, token, IsInOneLine, next_line, line_after}
+use Rattle.cg_base.specs.Faults.{refusal, refused_as}
 use Rattle.cg_sexp.specs.declared.stack.Open.{Open}
-use Rattle.cg_sexp.specs.Machine.{and_then, Nest, put, pushed, opened, closed, put_in, closed_in, whole, whole_in, held_by, State, outside, between, in_string, in_escape, in_comment, read_as, settled, escape_as, apart, outside_step, string_step, escape_step, comment_step, step, finish, ends, empty_nest, read_all}
+use Rattle.cg_sexp.specs.Machine.{and_then, Nest, put, pushed, closed, put_in, held_by, outside, between, in_string, in_comment, read_as, settled, escape_as, ends}
 
 pub line_after-append : (l : ℕ) (a b : List ℕ) → line_after l (a ++ b) ≡ line_after (line_after l a) b
 line_after-append l [] b = refl

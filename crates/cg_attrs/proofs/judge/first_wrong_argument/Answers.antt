@@ -1,5 +1,5 @@
 use Rattle.std.proofs.Common.{sym, ap, ◌∙◌, inl, inr}
-use Rattle.cg_attrs.specs.Parts.{first}
+use Rattle.cg_attrs.specs.Faults.{first}
 use Rattle.cg_attrs.proofs.Arguments.{no_rows, no_arguments}
 use Rattle.cg_attrs.proofs.judge.first_wrong_argument.Goals as goal
 

@@ -1,4 +1,4 @@
-use Rattle.std.proofs.Common.{rules, arith, ◌≡◌, sym, ◌∙◌, ap, Ok, Err}
+use Rattle.std.proofs.Common.{rules}
 use Rattle.cg_sexp.specs.Last.{put_last}
 use Rattle.cg_sexp.proofs.stack.Stack.put.Goals as goal
 
