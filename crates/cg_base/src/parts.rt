@@ -139,11 +139,11 @@ pub fn are_symbols(forms: &[Form]) -> bool
 }
 
 /// The one element of a list. None exactly where there is none, or more than one.
-pub fn only(forms: &[Form]) -> Option<&Form>
-    ensures { option_copied result ≡ only forms.now }
+pub fn only<T>(items: &[T]) -> Option<&T>
+    ensures { option_copied result ≡ only items.now }
 {
-    match forms {
-        [form] => Some(form),
+    match items {
+        [item] => Some(item),
         _ => None,
     }
 }

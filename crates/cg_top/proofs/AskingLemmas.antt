@@ -1,7 +1,7 @@
 -- How the bytes of more digits follow from those of the digits before.
 use Rattle.std.proofs.Common.{◌≡◌, ℕ, ◌+◌, ◌*◌, List, [], ◌∷◌, ◌++◌, Option, Some, None, refl, ap, append_assoc, ◌∙◌}
 use Rattle.std.specs.Option.{option_map}
-use Rattle.cg_top.specs.Shape.{◌>>=◌}
+use Rattle.cg_base.specs.Parts.{◌>>=◌}
 use Rattle.cg_top.specs.Asking.{digit_of, bytes_of}
 
 joined : (front : List ℕ) (x : ℕ) (o : Option (List ℕ)) → option_map (λ bs. (front ++ x ∷ []) ++ bs) o ≡ option_map (λ bs. front ++ bs) (o >>= λ bs. Some (x ∷ bs))

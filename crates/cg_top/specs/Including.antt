@@ -1,13 +1,14 @@
 -- Where a description has an include.
 use Rattle.std.specs.Prelude.{ℕ, Bool, true, false, ◌&&◌, if◌then◌else◌, List, [], ◌∷◌, Option, Some, None, codes}
-use Rattle.cg_base.specs.declared.Form.{Form, out-Form}
+use Rattle.cg_base.specs.declared.Form.{Form}
 use Rattle.cg_base.specs.declared.form.Top.{Top}
-use Rattle.cg_top.specs.Shape.{◌>>=◌, same, clause, string_of}
+use Rattle.cg_base.specs.Parts.{◌>>=◌, string_of}
+use Rattle.cg_top.specs.Shape.{same, clause}
 use Rattle.cg_top.specs.declared.including.Include.{Include}
 
 -- The file that `(include "NAME")` asks for.
 unfoldable pub included : Form → Option (List ℕ)
-included form = clause (codes "include") form >>= λ x. string_of (out-Form x)
+included form = clause (codes "include") form >>= string_of
 
 -- This name asks for the short forms, and for no file.
 abbrev pub is_short : List ℕ → Bool

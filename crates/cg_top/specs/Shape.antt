@@ -1,23 +1,12 @@
 -- What stands in a form.
 use Rattle.std.specs.Prelude.{◌≡◌, ℕ, Bool, true, false, nat_eq, if◌then◌else◌, List, [], ◌∷◌, Option, Some, None, is_some, pos, negsuc, codes}
 use Rattle.std.specs.Cmp.Lexicographic.{pointwise}
-use Rattle.cg_base.specs.declared.Form.{Form, out-Form}
-use Rattle.cg_base.specs.declared.Form.TheOpen.{Form-F, Number, Symbol, Str, Flag, Items}
-
--- A step that may give nothing, and what follows where it gives something.
-infixl 10 ◌>>=◌
-abbrev pub ◌>>=◌ : {A B : Type 0} → Option A → (A → Option B) → Option B
-None >>= f = None
-(Some x) >>= f = f x
+use Rattle.cg_base.specs.declared.Form.{Form}
+use Rattle.cg_base.specs.Parts.{◌>>=◌, symbol_of, string_of, natural_of, elements_of, only}
 
 -- Two texts have the same bytes.
 abbrev pub same : List ℕ → List ℕ → Bool
 same = pointwise nat_eq
-
--- The element of a list of just one.
-abbrev pub one : {A : Type 0} → List A → Option A
-one (a ∷ []) = Some a
-one _ = None
 
 -- The elements of a list of just two.
 abbrev pub two : {A : Type 0} → List A → Option (A × A)
@@ -34,34 +23,13 @@ abbrev pub four : {A : Type 0} → List A → Option (A × A × A × A)
 four (a ∷ b ∷ c ∷ d ∷ []) = Some (a, b, c, d)
 four _ = None
 
--- A form, seen by its first level.
-abbrev pub Level : Type 0
-Level = Form-F Form
-
-abbrev pub symbol_of : Level → Option (List ℕ)
-symbol_of (Symbol name) = Some name
-symbol_of _ = None
-
--- a number from 0
-abbrev pub number_of : Level → Option ℕ
-number_of (Number (pos n)) = Some n
-number_of _ = None
-
-abbrev pub string_of : Level → Option (List ℕ)
-string_of (Str bytes) = Some bytes
-string_of _ = None
-
-abbrev pub items_of : Level → Option (List Form)
-items_of (Items forms) = Some forms
-items_of _ = None
-
 abbrev pub is_named : List ℕ → Option (List ℕ) → Bool
 is_named name None = false
 is_named name (Some symbol) = same symbol name
 
 -- The form is the symbol NAME.
 abbrev pub is_symbol : List ℕ → Form → Bool
-is_symbol name form = is_named name (symbol_of (out-Form form))
+is_symbol name form = is_named name (symbol_of form)
 
 abbrev pub behind : List ℕ → List Form → Option (List Form)
 behind name [] = None
@@ -69,23 +37,23 @@ behind name (head ∷ forms) = if is_symbol name head then Some forms else None
 
 -- What stands behind NAME in a list `(NAME ..)`.
 unfoldable pub headed : List ℕ → Form → Option (List Form)
-headed name form = items_of (out-Form form) >>= behind name
+headed name form = elements_of form >>= behind name
 
 -- The form X of a list `(NAME X)`.
 unfoldable pub clause : List ℕ → Form → Option Form
-clause name form = headed name form >>= one
+clause name form = headed name form >>= only
 
 -- The symbol X of a list `(NAME X)`.
 unfoldable pub symbol_clause : List ℕ → Form → Option (List ℕ)
-symbol_clause name form = clause name form >>= λ x. symbol_of (out-Form x)
+symbol_clause name form = clause name form >>= symbol_of
 
 -- The number X, from 0, of a list `(NAME X)`.
 unfoldable pub number_clause : List ℕ → Form → Option ℕ
-number_clause name form = clause name form >>= λ x. number_of (out-Form x)
+number_clause name form = clause name form >>= natural_of
 
 -- The string in `(comment "..")`.
 unfoldable pub comment_of : Form → Option (List ℕ)
-comment_of form = clause (codes "comment") form >>= λ x. string_of (out-Form x)
+comment_of form = clause (codes "comment") form >>= string_of
 
 abbrev pub is_comment : Form → Bool
 is_comment form = is_some (comment_of form)

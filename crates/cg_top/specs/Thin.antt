@@ -9,7 +9,8 @@ use Rattle.cg_top.specs.declared.machine.Field.{Field}
 use Rattle.cg_top.specs.declared.machine.Part.{Part}
 use Rattle.cg_top.specs.declared.machine.Insn.{Insn}
 use Rattle.cg_top.specs.declared.machine.Machine.{Machine}
-use Rattle.cg_top.specs.Shape.{◌>>=◌, same, one, two, three, four, named, is_nothing, is_empty_clause, Level, symbol_of, number_of, string_of, is_symbol, headed, clause, symbol_clause, number_clause}
+use Rattle.cg_base.specs.Parts.{◌>>=◌, Layer, symbol_of, natural_of, string_of, only}
+use Rattle.cg_top.specs.Shape.{same, two, three, four, named, is_nothing, is_empty_clause, is_symbol, headed, clause, symbol_clause, number_clause}
 use Rattle.cg_top.specs.Names.{distinct}
 
 -- `(define-arch (name N) (machs M) (isas I))`: M and I.
@@ -27,7 +28,7 @@ unfoldable pub isa_of : Form → Option (List ℕ)
 isa_of form = do
   clauses ← headed (codes "define-isa") form
   n ← named clauses
-  x ← one n.1
+  x ← only n.1
   size ← number_clause (codes "base-insn-bitsize") x
   if nat_eq size 16 then Some n.0 else None
 
@@ -46,7 +47,7 @@ unfoldable pub mach_of : Form → Option (List ℕ × List ℕ)
 mach_of form = do
   clauses ← headed (codes "define-mach") form
   n ← named clauses
-  x ← one n.1
+  x ← only n.1
   cpu ← symbol_clause (codes "cpu") x
   Some (n.0, cpu)
 
@@ -105,12 +106,12 @@ fields_of tops = do
 unfoldable pub constant_shape : List Form → Option (List ℕ × Option ℕ)
 constant_shape forms = do
   x ← two forms
-  name ← symbol_of (out-Form x.0)
-  constant ← number_of (out-Form x.1)
+  name ← symbol_of x.0
+  constant ← natural_of x.1
   Some (name, Some constant)
 
 -- A part is a field F alone, or `(F n)`.
-abbrev pub part_shape : Level → Option (List ℕ × Option ℕ)
+abbrev pub part_shape : Layer → Option (List ℕ × Option ℕ)
 part_shape (Symbol name) = Some (name, None)
 part_shape (Items forms) = constant_shape forms
 part_shape _ = None
@@ -167,7 +168,7 @@ insn_shape form = do
   n ← named clauses
   x ← three_or_timed n.1
   syntax ← clause (codes "syntax") x.0
-  bytes ← string_of (out-Form syntax)
+  bytes ← string_of syntax
   if is_nothing (nop_shape x.2) then Some (n.0, x.1) else None
 
 unfoldable pub insn_of : List Field → Form → Option Insn

@@ -1,35 +1,26 @@
 ghost use Rattle.std.specs.Prelude.{◌≡◌, codes};
 ghost use Rattle.std.specs.Option.{option_copied, option_map};
-ghost use Rattle.cg_base.specs.declared.Form.{out-Form};
-ghost use Rattle.cg_top.specs.Shape.{one, two, three, four, symbol_of, number_of, string_of, items_of, is_symbol, headed, clause, symbol_clause, number_clause, comment_of, is_comment, is_empty_clause, past, named};
+ghost use Rattle.cg_top.specs.Shape.{two, three, four, is_symbol, headed, clause, symbol_clause, number_clause, comment_of, is_comment, is_empty_clause, past, named};
 
-use cg_base::{Form, Text};
-
-/// The element of a list of just one.
-pub fn one<T>(items: &[T]) -> Option<&T>
-    ensures { option_copied result ≡ one items.now }
-{
-    let (first, rest) = items.split_first()?;
-    if rest.is_empty() { Some(first) } else { None }
-}
+use cg_base::{Form, Text, only};
 
 /// The elements of a list of just two.
 pub fn two<T>(items: &[T]) -> Option<(&T, &T)>
     ensures { option_map (λ x. (x.0.now, x.1.now)) result ≡ two items.now }
 {
     let (first, rest) = items.split_first()?;
-    let second = one(rest)?;
+    let second = only(rest)?;
     Some((first, second))
 }
 
 /// The elements of a list of just three.
-#[tactic(auto, using(crate::proofs::ShapeLemmas::three_by_one))]
+#[tactic(auto, using(crate::proofs::ShapeLemmas::three_by_only))]
 pub fn three<T>(items: &[T]) -> Option<(&T, &T, &T)>
     ensures { option_map (λ x. (x.0.now, x.1.now, x.2.now)) result ≡ three items.now }
 {
     let (first, rest) = items.split_first()?;
     let (second, rest) = rest.split_first()?;
-    let third = one(rest)?;
+    let third = only(rest)?;
     Some((first, second, third))
 }
 
@@ -43,51 +34,11 @@ pub fn four<T>(items: &[T]) -> Option<(&T, &T, &T, &T)>
     Some((first, second, third, fourth))
 }
 
-/// The bytes of a symbol.
-pub fn symbol(form: &Form) -> Option<&Text>
-    ensures { option_copied result ≡ symbol_of (out-Form form.now) }
-{
-    match form {
-        Form::Symbol(text) => Some(text),
-        _ => None,
-    }
-}
-
-/// A number that isn't negative.
-pub fn number(form: &Form) -> Option<u64>
-    ensures { result ≡ number_of (out-Form form.now) }
-{
-    match form {
-        Form::Number(number) => u64::try_from(*number).ok(),
-        _ => None,
-    }
-}
-
-/// The bytes of a string.
-pub fn string(form: &Form) -> Option<&Text>
-    ensures { option_copied result ≡ string_of (out-Form form.now) }
-{
-    match form {
-        Form::Str(text) => Some(text),
-        _ => None,
-    }
-}
-
-/// The elements of a list.
-pub fn items(form: &Form) -> Option<&[Form]>
-    ensures { option_copied result ≡ items_of (out-Form form.now) }
-{
-    match form {
-        Form::Items(items) => Some(items.as_slice()),
-        _ => None,
-    }
-}
-
 /// Whether the form is this symbol.
 pub fn is_symbol(form: &Form, name: &[u8]) -> bool
     ensures { result ≡ is_symbol name.now form.now }
 {
-    match symbol(form) {
+    match form.symbol() {
         Some(text) => text.as_slice() == name,
         None => false,
     }
@@ -98,7 +49,7 @@ pub fn is_symbol(form: &Form, name: &[u8]) -> bool
 pub fn headed<'a>(form: &'a Form, name: &[u8]) -> Option<&'a [Form]>
     ensures { option_copied result ≡ headed name.now form.now }
 {
-    let (head, rest) = items(form)?.split_first()?;
+    let (head, rest) = form.elements()?.split_first()?;
     if is_symbol(head, name) {
         Some(rest)
     } else {
@@ -111,7 +62,7 @@ pub fn headed<'a>(form: &'a Form, name: &[u8]) -> Option<&'a [Form]>
 pub fn clause<'a>(form: &'a Form, name: &[u8]) -> Option<&'a Form>
     ensures { option_copied result ≡ clause name.now form.now }
 {
-    one(headed(form, name)?)
+    only(headed(form, name)?)
 }
 
 /// The symbol of a list `(NAME SYMBOL)`.
@@ -119,7 +70,7 @@ pub fn clause<'a>(form: &'a Form, name: &[u8]) -> Option<&'a Form>
 pub fn symbol_clause<'a>(form: &'a Form, name: &[u8]) -> Option<&'a Text>
     ensures { option_copied result ≡ symbol_clause name.now form.now }
 {
-    symbol(clause(form, name)?)
+    clause(form, name)?.symbol()
 }
 
 /// The number of a list `(NAME NUMBER)`.
@@ -127,7 +78,7 @@ pub fn symbol_clause<'a>(form: &'a Form, name: &[u8]) -> Option<&'a Text>
 pub fn number_clause(form: &Form, name: &[u8]) -> Option<u64>
     ensures { result ≡ number_clause name.now form.now }
 {
-    number(clause(form, name)?)
+    clause(form, name)?.natural()
 }
 
 /// The string of a list `(comment "..")`.
@@ -135,7 +86,7 @@ pub fn number_clause(form: &Form, name: &[u8]) -> Option<u64>
 fn comment_of(form: &Form) -> Option<&Text>
     ensures { option_copied result ≡ comment_of form.now }
 {
-    string(clause(form, b"comment".as_slice())?)
+    clause(form, b"comment".as_slice())?.string()
 }
 
 fn is_comment(form: &Form) -> bool

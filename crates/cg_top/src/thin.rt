@@ -10,10 +10,10 @@ use crate::machine::{Field, Insn, Machine, Part};
 use crate::misfit::Misfit;
 use crate::names::{are_distinct, find_field};
 use crate::shape::{
-    clause, four, headed, is_empty_clause, is_symbol, named, number, number_clause, one, string,
-    symbol, symbol_clause, three, two,
+    clause, four, headed, is_empty_clause, is_symbol, named, number_clause, symbol_clause, three,
+    two,
 };
-use cg_base::{Form, List, Text, Top};
+use cg_base::{Form, List, Text, Top, only};
 use std::alloc::Global;
 
 const MOST_FIELDS: usize = 1_024;
@@ -40,7 +40,7 @@ fn isa_of(form: &Form) -> Option<&Text>
     ensures { option_copied result ≡ isa_of form.now }
 {
     let (name, clauses) = named(headed(form, b"define-isa".as_slice())?)?;
-    let size = number_clause(one(clauses)?, b"base-insn-bitsize".as_slice())?;
+    let size = number_clause(only(clauses)?, b"base-insn-bitsize".as_slice())?;
     if size == 16 { Some(name) } else { None }
 }
 
@@ -66,7 +66,7 @@ fn mach_of(form: &Form) -> Option<(&Text, &Text)>
     ensures { option_map (λ x. (x.0.now, x.1.now)) result ≡ mach_of form.now }
 {
     let (name, clauses) = named(headed(form, b"define-mach".as_slice())?)?;
-    let cpu = symbol_clause(one(clauses)?, b"cpu".as_slice())?;
+    let cpu = symbol_clause(only(clauses)?, b"cpu".as_slice())?;
     Some((name, cpu))
 }
 
@@ -190,8 +190,8 @@ fn constant_shape(forms: &[Form]) -> Option<(&Text, Option<u64>)>
     ensures { option_map (λ x. (x.0.now, x.1)) result ≡ constant_shape forms.now }
 {
     let (name, constant) = two(forms)?;
-    let name = symbol(name)?;
-    let constant = number(constant)?;
+    let name = name.symbol()?;
+    let constant = constant.natural()?;
     Some((name, Some(constant)))
 }
 
@@ -344,7 +344,7 @@ fn insn_shape(form: &Form) -> Option<(&Text, &Form)>
 {
     let (name, clauses) = named(headed(form, b"define-insn".as_slice())?)?;
     let (syntax, format, semantics) = three_or_timed(clauses)?;
-    let _ = string(clause(syntax, b"syntax".as_slice())?)?;
+    let _ = clause(syntax, b"syntax".as_slice())?.string()?;
     if is_nop(semantics) {
         Some((name, format))
     } else {
