@@ -14,6 +14,7 @@ use Rattle.cg_pmacro.specs.declared.built_in.BuiltIn.{BuiltIn}
 use Rattle.cg_pmacro.specs.Shapes.{head_name}
 use Rattle.cg_pmacro.specs.BuiltIns.{name_of}
 use Rattle.cg_pmacro.specs.Replacing.{Table, replaced_to, replaced_layer, looked_up, elements_replaced}
+use Rattle.cg_pmacro.proofs.Fronts.{none_in_front, one_in_front}
 use Rattle.cg_pmacro.specs.Expansion.{Expander, expanded, further, level, calls, call_of, row}
 
 pub replaced_symbol : (k : ℕ) (t : Table) (s : List ℕ) → replaced_to k t (Symbol s) ≡ looked_up t s
@@ -77,4 +78,4 @@ pub calls_more : (w : Expander) (b : BuiltIn) (m : Body) (ls done : List Form) (
 calls_more w b m ls done zero k left h = absurd (h refl)
 calls_more w b m ls done (suc n) k left h = let e : suc n - 1 ≡ n = omega arith in rw e refl
 
-pub ruleset expansion_rules = (common_steps, calls_none, calls_more, expanded_out, further_none, further_some, halts_of, gives_lifted)
+pub ruleset expansion_rules = (common_steps, none_in_front, one_in_front, calls_none, calls_more, expanded_out, further_none, further_some, halts_of, gives_lifted)

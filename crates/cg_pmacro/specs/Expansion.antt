@@ -13,7 +13,7 @@ use Rattle.cg_pmacro.specs.declared.built_in.BuiltIn.{BuiltIn}
 use Rattle.cg_pmacro.specs.declared.built_in.BuiltIn.TheVariants as own
 use Rattle.cg_pmacro.specs.declared.built_in.Manner.{Manner}
 use Rattle.cg_pmacro.specs.declared.built_in.Manner.TheVariants as way
-use Rattle.cg_pmacro.specs.Outcome.{Answer, Out, and_then, fault, lift, choose, then_out}
+use Rattle.cg_pmacro.specs.Outcome.{Answer, Out, and_then, each, fault, lift, choose, then_out}
 use Rattle.cg_pmacro.specs.Sizes.{nodes, lists}
 use Rattle.cg_pmacro.specs.Shapes.{same_text, same_form, written, form_symbol, called, head_name, is_named, own_symbol, elements, pmacro_form, pmacro_head, pair_of, macro_named, is_among, begins_with_dot}
 use Rattle.cg_pmacro.specs.BuiltIns.{name_of, built_in, is_lazy, miscounted, misfit, form_elements, is_false, iota_of, ordinary}
@@ -42,11 +42,6 @@ charged name out = and_then out (charge name)
 abbrev pub entered : Option Expander → List ℕ → (Expander → Out Form) → Out Form
 entered None name next = Err (fault 204 name)
 entered (Some within) name next = next within
-
--- several forms from left to right, behind those that are done
-abbrev pub each : Expander → List ℕ → List Form → List Body → ℕ → Out (List Form)
-each within name done [] left = Ok (done, left)
-each within name done (b ∷ bs) left = and_then (within name false b left) (λ f rest. each within name (done ++ f ∷ []) bs rest)
 
 abbrev pub listed : Out (List Form) → Out Form
 listed out = and_then out (λ fs left. Ok (form.Items fs, left))
@@ -85,7 +80,7 @@ pmacro _ = Err (miscounted own.Pmacro)
 -- a list that is headed by a `.pmacro` form, with its cost
 unfoldable pub call_pmacro : Expander → List Body → List Body → ℕ → Out Form
 call_pmacro within form args left =
-    charged (codes ".pmacro") (then_out (pmacro form) (λ m. and_then (each within (codes ".pmacro") [] args left) (call_macro within m)))
+    charged (codes ".pmacro") (then_out (pmacro form) (λ m. and_then (each (within (codes ".pmacro") false) args left) (call_macro within m)))
 
 -- What `.if`, `.cond` and `.case` take, where they take something.
 abbrev pub Taken : Type 0
@@ -286,7 +281,7 @@ over macros within b m args left =
 abbrev pub call_over : List Macro → Expander → BuiltIn → List Body → ℕ → Out Form
 call_over macros within b items left =
     choose (slice_get items 0)
-    (λ m. and_then (head_of within b m left) (λ head rest. and_then (each within (name_of b) [] (drop 1 items) rest) (over macros within b head)))
+    (λ m. and_then (head_of within b m left) (λ head rest. and_then (each (within (name_of b) false) (drop 1 items) rest) (over macros within b head)))
     (Err (miscounted b))
 
 -- a `.pmacro` form that is neither a head nor mapped or applied
@@ -316,20 +311,20 @@ call_by way.LetStar macros within b spliced args left = call_let within b true a
 call_by way.Pmacro macros within b spliced args left = lift (stray_pmacro args) left
 call_by way.Over macros within b spliced args left = call_over macros within b args left
 call_by way.Splice macros within b spliced args left = listed (splice within [] args left)
-call_by way.Iota macros within b spliced args left = and_then (each within (name_of b) [] args left) (λ fs rest. lift (affordable rest (iota_of fs)) rest)
-call_by way.Ordinary macros within b spliced args left = and_then (each within (name_of b) [] args left) (λ fs rest. lift (ordinary b spliced fs) rest)
+call_by way.Iota macros within b spliced args left = and_then (each (within (name_of b) false) args left) (λ fs rest. lift (affordable rest (iota_of fs)) rest)
+call_by way.Ordinary macros within b spliced args left = and_then (each (within (name_of b) false) args left) (λ fs rest. lift (ordinary b spliced fs) rest)
 
 abbrev pub call_built_in : List Macro → Expander → BuiltIn → Bool → List Body → ℕ → Out Form
 call_built_in macros within b spliced args left = call_by (manner b) macros within b spliced args left
 
 -- a list that isn't a call; its head may not begin with a dot
 abbrev pub plain_list : Expander → List ℕ → Option (List ℕ) → List Body → ℕ → Out Form
-plain_list within inner None bs left = listed (each within inner [] bs left)
+plain_list within inner None bs left = listed (each (within inner false) bs left)
 plain_list within inner (Some name) bs left =
-    if begins_with_dot name then Err (fault 207 name) else listed (each within inner [] bs left)
+    if begins_with_dot name then Err (fault 207 name) else listed (each (within inner false) bs left)
 
 abbrev pub macro_called : Expander → List ℕ → List (List ℕ) → Body → List Body → ℕ → Out Form
-macro_called within name formals b args left = charged name (and_then (each within name [] args left) (call_written within name formals b))
+macro_called within name formals b args left = charged name (and_then (each (within name false) args left) (call_written within name formals b))
 
 unfoldable pub own_called : List Macro → Expander → BuiltIn → Bool → List Body → ℕ → Out Form
 own_called macros within b spliced args left = charged (name_of b) (call_built_in macros within b spliced args left)

@@ -1,5 +1,5 @@
 -- What an expansion comes to: a form and the units that are left, or the first fault.
-use Rattle.std.specs.Prelude.{◌≡◌, ℕ, List, Option, Some, None, Result, Ok, Err}
+use Rattle.std.specs.Prelude.{◌≡◌, ℕ, List, [], ◌∷◌, Option, Some, None, Result, Ok, Err}
 use Rattle.std.specs.Option.{option_copied}
 use Rattle.std.specs.Borrow.{Bor}
 use Rattle.cg_pmacro.specs.declared.fault.Fault.{Fault}
@@ -19,14 +19,38 @@ abbrev pub and_then : {A B : Type 0} → Out A → (A → ℕ → Out B) → Out
 and_then (Ok r) next = next r.0 r.1
 and_then (Err x) next = Err x
 
+-- A run begins in a state, as the units that are left, and comes to an answer and the state behind it, or to the first fault.
+abbrev pub Run : Type 0 → Type 0 → Type 0 → Type 0
+Run S X A = S → Result (A × S) X
+
+-- an answer that is paid for with units
+abbrev pub Paid : Type 0 → Type 0
+Paid A = Run ℕ Fault A
+
+abbrev pub pure : {S X A : Type 0} → A → Run S X A
+pure a s = Ok (a, s)
+
 -- the fault of that number with that text
 abbrev pub fault : ℕ → List ℕ → Fault
 fault number text = record { number = number; text = text }
 
 -- one answer after the other; a fault ends it
-abbrev pub onward : {A B : Type 0} → Answer A → (A → Answer B) → Answer B
+abbrev pub onward : {A B X : Type 0} → Result A X → (A → Result B X) → Result B X
 onward (Ok a) next = next a
 onward (Err x) next = Err x
+
+-- one after the other, each from the state that those before it left; the first fault ends it
+infixl 10 ◌>>=◌
+abbrev pub ◌>>=◌ : {S X A B : Type 0} → Run S X A → (A → Run S X B) → Run S X B
+(first >>= next) s = onward (first s) (λ r. next r.0 r.1)
+
+-- the elements of a list from left to right
+abbrev pub each : {S X A B : Type 0} → (A → Run S X B) → List A → Run S X (List B)
+each one [] = pure []
+each one (x ∷ xs) = do
+  y ← one x
+  ys ← each one xs
+  pure (y ∷ ys)
 
 -- an answer that costs nothing
 abbrev pub lift : {A : Type 0} → Answer A → ℕ → Out A

@@ -3,7 +3,7 @@ ghost use Rattle.std.specs.Option.{option_copied, option_map};
 ghost use Rattle.std.specs.List.{list_all};
 ghost use Rattle.cg_base.specs.declared.form.Form.TheVariants.{Symbol, Str, Items};
 ghost use Rattle.cg_pmacro.specs.declared.built_in.Manner.TheVariants as way;
-ghost use Rattle.cg_pmacro.specs.Outcome.{Answers, Gives, GivesPart};
+ghost use Rattle.cg_pmacro.specs.Outcome.{each as each_of, Answers, Gives, GivesPart};
 ghost use Rattle.cg_pmacro.specs.Shapes.{macro_named as macro_named_so};
 ghost use Rattle.cg_pmacro.specs.BuiltIns.{name_of};
 ghost use Rattle.cg_pmacro.specs.Expansion as meant;
@@ -292,7 +292,7 @@ fn plain_list(
     items: &[Body],
     left: &mut u64,
 ) -> Result<Value, Halt>
-    ensures { Gives (meant.listed (meant.each (meant.expanded macros.now depth) inner.now [] items.now left.old)) result left.new }
+    ensures { Gives (meant.listed (each_of (meant.expanded macros.now depth inner.now false) items.now left.old)) result left.new }
 {
     let mut forms = List::new(alloc);
     for item in items {
@@ -313,7 +313,7 @@ fn each(
     items: &[Body],
     left: &mut u64,
 ) -> Result<List<Value>, Halt>
-    ensures { Gives (meant.each (meant.expanded macros.now depth) name.now [] items.now left.old) result left.new }
+    ensures { Gives (each_of (meant.expanded macros.now depth name.now false) items.now left.old) result left.new }
 {
     let mut values = List::new(alloc);
     for item in items {
@@ -463,7 +463,7 @@ fn each_for(
     items: &[Body],
     left: &mut u64,
 ) -> Result<List<Value>, Halt>
-    ensures { Gives (meant.each (meant.expanded macros.now depth) (name_of of) [] items.now left.old) result left.new }
+    ensures { Gives (each_of (meant.expanded macros.now depth (name_of of) false) items.now left.old) result left.new }
 {
     each(alloc, macros, depth, of.name(), items, left)
 }

@@ -1,5 +1,7 @@
-use Rattle.std.proofs.Common.{◌≡◌, ◌+◌, ◌-◌, ◌*◌, [], drop}
-use Rattle.cg_pmacro.specs.Expansion.{expanded, each, first_arm, bind, splice, calls, beginning}
+use Rattle.std.proofs.Common.{◌≡◌, ◌+◌, ◌-◌, ◌*◌, false, [], drop}
+use Rattle.cg_pmacro.specs.Outcome.{each}
+use Rattle.cg_pmacro.proofs.Fronts.{in_front}
+use Rattle.cg_pmacro.specs.Expansion.{expanded, first_arm, bind, splice, calls, beginning}
 use Rattle.cg_pmacro.proofs.expander.+expansion.Given as goal
 
 abbrev pub decreases-expand : goal.decreases-expand
@@ -89,11 +91,11 @@ decreases-over l = 20 * l.depth + 7
 -- the rest gives what the whole gives
 abbrev pub invariant-plain_list-loop-item : goal.invariant-plain_list-loop-item
 invariant-plain_list-loop-item l =
-    each (expanded l.macros l.depth) l.inner l.forms (drop l.item-index l.items) l.left ≡ each (expanded l.macros l.depth) l.inner [] l.items l.initial.left
+    in_front l.forms (each (expanded l.macros l.depth l.inner false) (drop l.item-index l.items) l.left) ≡ each (expanded l.macros l.depth l.inner false) l.items l.initial.left
 
 abbrev pub invariant-each-loop-item : goal.invariant-each-loop-item
 invariant-each-loop-item l =
-    each (expanded l.macros l.depth) l.name l.values (drop l.item-index l.items) l.left ≡ each (expanded l.macros l.depth) l.name [] l.items l.initial.left
+    in_front l.values (each (expanded l.macros l.depth l.name false) (drop l.item-index l.items) l.left) ≡ each (expanded l.macros l.depth l.name false) l.items l.initial.left
 
 abbrev pub invariant-first_arm-loop-k : goal.invariant-first_arm-loop-k
 invariant-first_arm-loop-k l =
