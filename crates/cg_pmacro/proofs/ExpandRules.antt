@@ -8,25 +8,26 @@ use Rattle.cg_pmacro.specs.declared.body.Body.TheOpen.{Body-F}
 use Rattle.cg_pmacro.specs.declared.body.Body.TheViews.{outs-Quoted, outs-Number, outs-Symbol, outs-Str, outs-Flag, outs-Items}
 use Rattle.cg_pmacro.specs.declared.body.Body.TheVariants.{Quoted, Number, Symbol, Str, Flag, Items}
 use Rattle.cg_pmacro.specs.declared.body.Macro.{Macro}
-use Rattle.cg_pmacro.specs.Expansion.{expanded, further, level, symbol_expanded, list_expanded}
+use Rattle.cg_pmacro.specs.Expansion.{expanded, expanded_by, symbol_expanded, list_expanded}
+use Rattle.cg_pmacro.specs.Steps.{further}
 use Rattle.cg_pmacro.proofs.Rules.{expanded_out}
 
 pub expanded_quoted : (macros : List Macro) (k : ℕ) (inner : List ℕ) (spliced : Bool) (f : Form) (left : ℕ) → expanded macros k inner spliced (Quoted f) left ≡ Ok (f, left)
-expanded_quoted macros k inner spliced f left = expanded_out macros k inner spliced (Quoted f) left ∙ ap (λ (x : Body-F Body). level macros (further macros k) inner spliced x left) (outs-Quoted f)
+expanded_quoted macros k inner spliced f left = expanded_out macros k inner spliced (Quoted f) left ∙ ap (λ (x : Body-F Body). expanded_by macros (further macros k) inner spliced x left) (outs-Quoted f)
 
 pub expanded_number : (macros : List Macro) (k : ℕ) (inner : List ℕ) (spliced : Bool) (n : ℤ) (left : ℕ) → expanded macros k inner spliced (Number n) left ≡ Ok (form.Number n, left)
-expanded_number macros k inner spliced n left = expanded_out macros k inner spliced (Number n) left ∙ ap (λ (x : Body-F Body). level macros (further macros k) inner spliced x left) (outs-Number n)
+expanded_number macros k inner spliced n left = expanded_out macros k inner spliced (Number n) left ∙ ap (λ (x : Body-F Body). expanded_by macros (further macros k) inner spliced x left) (outs-Number n)
 
 pub expanded_symbol : (macros : List Macro) (k : ℕ) (inner : List ℕ) (spliced : Bool) (s : List ℕ) (left : ℕ) → expanded macros k inner spliced (Symbol s) left ≡ symbol_expanded macros (further macros k) s left
-expanded_symbol macros k inner spliced s left = expanded_out macros k inner spliced (Symbol s) left ∙ ap (λ (x : Body-F Body). level macros (further macros k) inner spliced x left) (outs-Symbol s)
+expanded_symbol macros k inner spliced s left = expanded_out macros k inner spliced (Symbol s) left ∙ ap (λ (x : Body-F Body). expanded_by macros (further macros k) inner spliced x left) (outs-Symbol s)
 
 pub expanded_string : (macros : List Macro) (k : ℕ) (inner : List ℕ) (spliced : Bool) (s : List ℕ) (left : ℕ) → expanded macros k inner spliced (Str s) left ≡ Ok (form.Str s, left)
-expanded_string macros k inner spliced s left = expanded_out macros k inner spliced (Str s) left ∙ ap (λ (x : Body-F Body). level macros (further macros k) inner spliced x left) (outs-Str s)
+expanded_string macros k inner spliced s left = expanded_out macros k inner spliced (Str s) left ∙ ap (λ (x : Body-F Body). expanded_by macros (further macros k) inner spliced x left) (outs-Str s)
 
 pub expanded_flag : (macros : List Macro) (k : ℕ) (inner : List ℕ) (spliced : Bool) (b : Bool) (left : ℕ) → expanded macros k inner spliced (Flag b) left ≡ Ok (form.Flag b, left)
-expanded_flag macros k inner spliced b left = expanded_out macros k inner spliced (Flag b) left ∙ ap (λ (x : Body-F Body). level macros (further macros k) inner spliced x left) (outs-Flag b)
+expanded_flag macros k inner spliced b left = expanded_out macros k inner spliced (Flag b) left ∙ ap (λ (x : Body-F Body). expanded_by macros (further macros k) inner spliced x left) (outs-Flag b)
 
 pub expanded_items : (macros : List Macro) (k : ℕ) (inner : List ℕ) (spliced : Bool) (bs : List Body) (left : ℕ) → expanded macros k inner spliced (Items bs) left ≡ list_expanded macros (further macros k) inner spliced bs left
-expanded_items macros k inner spliced bs left = expanded_out macros k inner spliced (Items bs) left ∙ ap (λ (x : Body-F Body). level macros (further macros k) inner spliced x left) (outs-Items bs)
+expanded_items macros k inner spliced bs left = expanded_out macros k inner spliced (Items bs) left ∙ ap (λ (x : Body-F Body). expanded_by macros (further macros k) inner spliced x left) (outs-Items bs)
 
 pub ruleset expand_rules = (common_steps, expanded_quoted, expanded_number, expanded_symbol, expanded_string, expanded_flag, expanded_items)

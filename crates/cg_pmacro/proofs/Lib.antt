@@ -1,4 +1,5 @@
 pub mod Fronts
+pub mod Names
 pub mod Rules
 pub mod Numbers
 pub mod TopRules

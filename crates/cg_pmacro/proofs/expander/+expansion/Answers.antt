@@ -1,5 +1,6 @@
 use Rattle.std.proofs.Common.{ℕ, List, false, subst}
-use Rattle.cg_pmacro.specs.Outcome.{each, Gives}
+use Rattle.cg_pmacro.specs.Outcome.{each}
+use Rattle.cg_pmacro.specs.Reports.{Gives}
 use Rattle.cg_pmacro.specs.Expansion.{expanded}
 use Rattle.cg_pmacro.proofs.expander.+expansion.Goals as goal
 

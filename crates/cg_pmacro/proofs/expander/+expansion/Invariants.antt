@@ -1,7 +1,9 @@
-use Rattle.std.proofs.Common.{◌≡◌, ◌+◌, ◌-◌, ◌*◌, false, [], drop}
-use Rattle.cg_pmacro.specs.Outcome.{each}
+use Rattle.std.proofs.Common.{◌≡◌, ◌+◌, ◌-◌, ◌*◌, false, drop, filter_map, if◌then◌else◌}
+use Rattle.std.specs.List.{range_with_len}
+use Rattle.cg_pmacro.specs.Outcome.{each, each_joined}
+use Rattle.cg_pmacro.specs.Shapes.{binding}
 use Rattle.cg_pmacro.proofs.Fronts.{in_front}
-use Rattle.cg_pmacro.specs.Expansion.{expanded, first_arm, bind, splice, calls, beginning}
+use Rattle.cg_pmacro.specs.Expansion.{expanded, first_arm, let_binding, let_in_order, bind, spliced, results, beginning}
 use Rattle.cg_pmacro.proofs.expander.+expansion.Given as goal
 
 abbrev pub decreases-expand : goal.decreases-expand
@@ -101,14 +103,16 @@ abbrev pub invariant-first_arm-loop-k : goal.invariant-first_arm-loop-k
 invariant-first_arm-loop-k l =
     first_arm (expanded l.macros l.depth) (drop l.k l.arms) l.left ≡ first_arm (expanded l.macros l.depth) l.arms l.initial.left
 
+-- in order what the rest gives with those so far, else those so far in front of what the rest gives
 abbrev pub invariant-bind-loop-item : goal.invariant-bind-loop-item
 invariant-bind-loop-item l =
-    bind (expanded l.macros l.depth) l.of l.ordered l.table (drop l.item-index l.items) l.left ≡ bind (expanded l.macros l.depth) l.of l.ordered [] l.items l.initial.left
+    (if l.ordered then let_in_order (expanded l.macros l.depth) l.of l.table (filter_map binding (drop l.item-index l.items)) l.left
+    else in_front l.table (each (let_binding (expanded l.macros l.depth) l.of) (filter_map binding (drop l.item-index l.items)) l.left)) ≡ bind (expanded l.macros l.depth) l.of l.ordered l.items l.initial.left
 
 abbrev pub invariant-splice-loop-item : goal.invariant-splice-loop-item
 invariant-splice-loop-item l =
-    splice (expanded l.macros l.depth) l.forms (drop l.item-index l.items) l.left ≡ splice (expanded l.macros l.depth) [] l.items l.initial.left
+    in_front l.forms (each_joined (spliced (expanded l.macros l.depth)) (drop l.item-index l.items) l.left) ≡ each_joined (spliced (expanded l.macros l.depth)) l.items l.initial.left
 
 abbrev pub invariant-map-loop-k : goal.invariant-map-loop-k
 invariant-map-loop-k l =
-    calls (expanded l.macros l.depth) l.of l.head l.args l.forms (l.count - l.k) l.k l.left ≡ calls (expanded l.macros l.depth) l.of l.head l.args (beginning l.of) l.count 0 l.initial.left
+    in_front l.forms (results (expanded l.macros l.depth) l.of l.head l.args (range_with_len l.k (l.count - l.k)) l.left) ≡ in_front (beginning l.of) (results (expanded l.macros l.depth) l.of l.head l.args (range_with_len 0 l.count) l.initial.left)
