@@ -8,8 +8,8 @@ use Rattle.cg_pmacro.specs.declared.body.Body.TheOpen.{Body-F}
 use Rattle.cg_pmacro.specs.declared.body.Body.TheViews.{outs-Quoted, outs-Number, outs-Symbol, outs-Str, outs-Flag, outs-Items}
 use Rattle.cg_pmacro.specs.declared.body.Body.TheVariants.{Quoted, Number, Symbol, Str, Flag, Items}
 use Rattle.cg_pmacro.specs.declared.body.Macro.{Macro}
-use Rattle.cg_pmacro.specs.Expansion.{expanded, expanded_by, symbol_expanded, list_expanded}
-use Rattle.cg_pmacro.specs.Steps.{further}
+use Rattle.cg_pmacro.specs.Expansion.{expanded}
+use Rattle.cg_pmacro.specs.Steps.{further, expanded_by, symbol_expanded, list_expanded}
 use Rattle.cg_pmacro.proofs.Rules.{expanded_out}
 
 pub expanded_quoted : (macros : List Macro) (k : ℕ) (inner : List ℕ) (spliced : Bool) (f : Form) (left : ℕ) → expanded macros k inner spliced (Quoted f) left ≡ Ok (f, left)

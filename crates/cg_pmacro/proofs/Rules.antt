@@ -1,8 +1,11 @@
 -- The equations of the meanings that recurse on how deep lists may stand.
-use Rattle.std.proofs.Common.{◌≡◌, ◌≢◌, ℕ, zero, suc, ◌+◌, ◌-◌, Bool, false, ℤ, List, [], ◌∷◌, Option, Some, None, Result, Ok, Err, ap, refl, sym, arith}
+use Rattle.std.proofs.Common.{◌≡◌, ◌≢◌, ℕ, zero, suc, ◌+◌, ◌-◌, Bool, false, ℤ, List, [], ◌∷◌, drop, codes, Option, Some, None, Result, Ok, Err, ap, refl, sym, arith}
 use Rattle.std.specs.List.{range_with_len}
 use Rattle.std.proofs.lemmas.Grind.{common_steps}
 use Rattle.cg_base.specs.declared.form.Form.{Form}
+use Rattle.cg_base.specs.declared.form.Form.TheVariants as form
+use Rattle.cg_pmacro.specs.declared.body.Body.TheOpen as body
+use Rattle.cg_pmacro.specs.declared.body.Body.TheOpen.{Body-F}
 use Rattle.cg_pmacro.specs.declared.fault.Fault.{Fault}
 use Rattle.cg_pmacro.specs.declared.fault.Halt.{Halt}
 use Rattle.cg_pmacro.specs.declared.fault.Halt.TheVariants.{Faulty, NoMemory}
@@ -11,15 +14,15 @@ use Rattle.cg_pmacro.specs.declared.body.Body.TheViews.{out-Body, outs-Quoted, o
 use Rattle.cg_pmacro.specs.declared.body.Body.TheVariants.{Quoted, Number, Symbol, Str, Flag, Items}
 use Rattle.cg_pmacro.specs.declared.body.Macro.{Macro}
 use Rattle.cg_pmacro.specs.declared.built_in.BuiltIn.TheVariants as own
-use Rattle.cg_pmacro.specs.Outcome.{Answer, Paid, ◌>>=◌, onward, each, lift}
+use Rattle.cg_pmacro.specs.Outcome.{Answer, Paid, ◌>>=◌, onward, choose, pure, each, lift}
 use Rattle.cg_pmacro.specs.Reports.{Answers, Gives, Halts, IsHalt}
-use Rattle.cg_pmacro.specs.Steps.{further, affordable, call_built_in}
+use Rattle.cg_pmacro.specs.Steps.{further, affordable, call_built_in, own_called, plain_list, named_list, entered_plain, list_expanded, expanded_by}
 use Rattle.cg_pmacro.specs.declared.built_in.BuiltIn.{BuiltIn}
-use Rattle.cg_pmacro.specs.Shapes.{head_name}
-use Rattle.cg_pmacro.specs.BuiltIns.{name_of, iota_of}
+use Rattle.cg_pmacro.specs.Shapes.{head_name, pmacro_head, macro_named}
+use Rattle.cg_pmacro.specs.BuiltIns.{name_of, built_in, iota_of}
 use Rattle.cg_pmacro.specs.Replacing.{Table, replaced_to, replaced_layer, looked_up, elements_replaced}
 use Rattle.cg_pmacro.proofs.Fronts.{in_front, none_in_front, one_in_front, more_in_front}
-use Rattle.cg_pmacro.specs.Expansion.{Expander, expanded, expanded_by, charge, charged, call_of, row, results, own_called}
+use Rattle.cg_pmacro.specs.Expansion.{Expander, Kind, itself, macro_symbol, macro_call, pmacro_call, own_call, other_list, named_kind, layer_kind, of_kind, entered, macro_called, call_pmacro, with_arguments, without_arguments, expanded, charge, charged, call_of, row, results}
 
 pub replaced_symbol : (k : ℕ) (t : Table) (s : List ℕ) → replaced_to k t (Symbol s) ≡ looked_up t s
 replaced_symbol zero t s = ap (replaced_layer None t (Symbol s)) (outs-Symbol s)
@@ -49,10 +52,35 @@ replaced_items (suc k) t bs h =
 
 pub ruleset replacing_rules = (common_steps, replaced_symbol, replaced_quoted, replaced_number, replaced_string, replaced_flag, replaced_items)
 
+-- What a form of a kind comes to is what its steps give.
+named_steps : (macros : List Macro) (deeper : Option Expander) (inner : List ℕ) (spliced : Bool) (name : List ℕ) (bs : List Body) (left : ℕ) (m : Option (List (List ℕ) × Body)) (b : Option BuiltIn) → of_kind macros deeper inner spliced (choose m (λ p. macro_call name p.0 p.1 (drop 1 bs)) (choose b (λ c. own_call c (drop 1 bs)) (other_list (Some name) bs))) left ≡ choose m (λ p. entered deeper name >>= λ within. macro_called within name p.0 p.1 (drop 1 bs)) (choose b (λ c. entered deeper (name_of c) >>= λ within. own_called macros within c spliced (drop 1 bs)) (entered deeper inner >>= λ within. plain_list within inner (Some name) bs)) left
+unfolding own_called
+named_steps macros deeper inner spliced name bs left (Some p) b = refl
+named_steps macros deeper inner spliced name bs left None (Some c) = refl
+named_steps macros deeper inner spliced name bs left None None = refl
+
+list_steps : (macros : List Macro) (deeper : Option Expander) (inner : List ℕ) (spliced : Bool) (bs : List Body) (left : ℕ) (form : Option (List Body)) (head : Option (List ℕ)) → of_kind macros deeper inner spliced (choose form (λ p. pmacro_call p (drop 1 bs)) (choose head (λ name. named_kind macros name bs) (other_list None bs))) left ≡ choose form (λ p. entered deeper (codes ".pmacro") >>= λ within. call_pmacro within p (drop 1 bs)) (choose head (λ name. named_list macros deeper inner spliced name bs) (entered_plain deeper inner bs)) left
+list_steps macros deeper inner spliced bs left (Some p) head = refl
+list_steps macros deeper inner spliced bs left None (Some name) = named_steps macros deeper inner spliced name bs left (with_arguments (macro_named macros name)) (built_in name)
+list_steps macros deeper inner spliced bs left None None = refl
+
+symbol_steps : (macros : List Macro) (deeper : Option Expander) (inner : List ℕ) (spliced : Bool) (s : List ℕ) (left : ℕ) (b : Option Body) → of_kind macros deeper inner spliced (choose b (macro_symbol s) (itself (form.Symbol s))) left ≡ choose b (λ c. entered deeper s >>= λ within. charged s (within s false c)) (pure (form.Symbol s)) left
+symbol_steps macros deeper inner spliced s left (Some b) = refl
+symbol_steps macros deeper inner spliced s left None = refl
+
+kind_steps : (macros : List Macro) (deeper : Option Expander) (inner : List ℕ) (spliced : Bool) (b : Body-F Body) (left : ℕ) → of_kind macros deeper inner spliced (layer_kind macros b) left ≡ expanded_by macros deeper inner spliced b left
+unfolding list_expanded
+kind_steps macros deeper inner spliced (body.Quoted f) left = refl
+kind_steps macros deeper inner spliced (body.Number n) left = refl
+kind_steps macros deeper inner spliced (body.Symbol s) left = symbol_steps macros deeper inner spliced s left (without_arguments (macro_named macros s))
+kind_steps macros deeper inner spliced (body.Str s) left = refl
+kind_steps macros deeper inner spliced (body.Flag b) left = refl
+kind_steps macros deeper inner spliced (body.Items bs) left = list_steps macros deeper inner spliced bs left (pmacro_head bs) (head_name bs)
+
 pub expanded_out : (macros : List Macro) (k : ℕ) (inner : List ℕ) (spliced : Bool) (b : Body) (left : ℕ) → expanded macros k inner spliced b left ≡ expanded_by macros (further macros k) inner spliced (out-Body b) left
 unfolding expanded
-expanded_out macros zero inner spliced b left = refl
-expanded_out macros (suc k) inner spliced b left = refl
+expanded_out macros zero inner spliced b left = kind_steps macros None inner spliced (out-Body b) left
+expanded_out macros (suc k) inner spliced b left = kind_steps macros (Some (expanded macros k)) inner spliced (out-Body b) left
 
 pub further_none : (macros : List Macro) (k : ℕ) → k ≡ 0 → further macros k ≡ None
 further_none macros zero h = refl

@@ -295,56 +295,72 @@ own_result macros within own.Apply in_splice args = call_over macros within own.
 own_result macros within own.Iota in_splice args = each (within (name_of own.Iota) false) args >>= λ fs. lift (iota_of fs)
 own_result macros within b in_splice args = each (within (name_of b) false) args >>= λ fs. lift (ordinary b in_splice fs)
 
--- a call of a built-in macro, with its cost
-unfoldable pub own_called : List Macro → Expander → BuiltIn → Bool → List Body → Paid Form
-own_called macros within b in_splice args = charged (name_of b) (own_result macros within b in_splice args)
+-- What a form is to expansion.
+pub data Kind : Type 0 where
+  itself : Form → Kind
+  macro_symbol : List ℕ → Body → Kind
+  macro_call : List ℕ → List (List ℕ) → Body → List Body → Kind
+  pmacro_call : List Body → List Body → Kind
+  own_call : BuiltIn → List Body → Kind
+  other_list : Option (List ℕ) → List Body → Kind
 
--- A list that isn't a call is the list of the expansions of its elements, from left to right. Its head may not begin with a dot.
-abbrev pub plain_list : Expander → List ℕ → Option (List ℕ) → List Body → Paid Form
-plain_list within inner None bs = listed (each (within inner false) bs)
-plain_list within inner (Some name) bs = if begins_with_dot name then fails (fault 207 name) else listed (each (within inner false) bs)
+-- the body of a macro without arguments
+abbrev pub without_arguments : Option Macro → Option Body
+without_arguments None = None
+without_arguments (Some m) = choose m.formals (λ names. None) (Some m.body)
 
 -- A list whose head is a symbol that names a macro with arguments or a built-in macro is a call.
-abbrev pub named_list : List Macro → Option Expander → List ℕ → Bool → List ℕ → List Body → Paid Form
-named_list macros deeper inner in_splice name bs =
+abbrev pub named_kind : List Macro → List ℕ → List Body → Kind
+named_kind macros name bs =
     choose (with_arguments (macro_named macros name))
-    (λ m. entered deeper name >>= λ within. macro_called within name m.0 m.1 (drop 1 bs))
-    (choose (built_in name)
-    (λ b. entered deeper (name_of b) >>= λ within. own_called macros within b in_splice (drop 1 bs))
-    (entered deeper inner >>= λ within. plain_list within inner (Some name) bs))
+    (λ m. macro_call name m.0 m.1 (drop 1 bs))
+    (choose (built_in name) (λ b. own_call b (drop 1 bs)) (other_list (Some name) bs))
 
-abbrev pub entered_plain : Option Expander → List ℕ → List Body → Paid Form
-entered_plain deeper inner bs = entered deeper inner >>= λ within. plain_list within inner None bs
-
--- A list whose head is a `.pmacro` form is a call too.
-unfoldable pub list_expanded : List Macro → Option Expander → List ℕ → Bool → List Body → Paid Form
-list_expanded macros deeper inner in_splice bs =
+-- So is one whose head is a `.pmacro` form. Any other isn't.
+abbrev pub list_kind : List Macro → List Body → Kind
+list_kind macros bs =
     choose (pmacro_head bs)
-    (λ form. entered deeper (codes ".pmacro") >>= λ within. call_pmacro within form (drop 1 bs))
-    (choose (head_name bs) (λ name. named_list macros deeper inner in_splice name bs) (entered_plain deeper inner bs))
+    (λ form. pmacro_call form (drop 1 bs))
+    (choose (head_name bs) (λ name. named_kind macros name bs) (other_list None bs))
 
--- a macro that has no arguments
-abbrev pub without_formals : Option Macro → Option Macro
-without_formals None = None
-without_formals (Some m) = if is_none m.formals then Some m else None
+-- A quoted leaf is its content and nothing else. A number, a string, a flag and a symbol that names no macro without arguments
+-- is itself.
+abbrev pub layer_kind : List Macro → Body-F Body → Kind
+layer_kind macros (body.Quoted f) = itself f
+layer_kind macros (body.Number n) = itself (form.Number n)
+layer_kind macros (body.Symbol s) = choose (without_arguments (macro_named macros s)) (macro_symbol s) (itself (form.Symbol s))
+layer_kind macros (body.Str s) = itself (form.Str s)
+layer_kind macros (body.Flag b) = itself (form.Flag b)
+layer_kind macros (body.Items bs) = list_kind macros bs
 
--- A symbol that names a macro without arguments is the expansion of its body, with its cost. Another symbol is itself.
-abbrev pub symbol_expanded : List Macro → Option Expander → List ℕ → Paid Form
-symbol_expanded macros deeper name =
-    choose (without_formals (macro_named macros name))
-    (λ m. entered deeper name >>= λ within. charged name (within name false m.body))
-    (pure (form.Symbol name))
+-- E204 has the name of the macro, and at a list that isn't a call that of the innermost one around.
+abbrev pub entry_name : List ℕ → Kind → List ℕ
+entry_name inner (macro_symbol name b) = name
+entry_name inner (macro_call name formals b args) = name
+entry_name inner (pmacro_call form args) = codes ".pmacro"
+entry_name inner (own_call b args) = name_of b
+entry_name inner _ = inner
 
--- A quoted leaf expands to its content and nothing else. A number, string or flag is itself.
-abbrev pub expanded_by : List Macro → Option Expander → List ℕ → Bool → Body-F Body → Paid Form
-expanded_by macros deeper inner in_splice (body.Quoted f) = pure f
-expanded_by macros deeper inner in_splice (body.Number n) = pure (form.Number n)
-expanded_by macros deeper inner in_splice (body.Symbol s) = symbol_expanded macros deeper s
-expanded_by macros deeper inner in_splice (body.Str s) = pure (form.Str s)
-expanded_by macros deeper inner in_splice (body.Flag b) = pure (form.Flag b)
-expanded_by macros deeper inner in_splice (body.Items bs) = list_expanded macros deeper inner in_splice bs
+-- A call comes to what is called, and a symbol to the expansion of its body, each with its cost. A list that isn't a call is
+-- the list of the expansions of its elements, from left to right; its head may not begin with a dot.
+abbrev pub comes_to : List Macro → Expander → List ℕ → Bool → Kind → Paid Form
+comes_to macros within inner in_splice (itself f) = pure f
+comes_to macros within inner in_splice (macro_symbol name b) = charged name (within name false b)
+comes_to macros within inner in_splice (macro_call name formals b args) = macro_called within name formals b args
+comes_to macros within inner in_splice (pmacro_call form args) = call_pmacro within form args
+comes_to macros within inner in_splice (own_call b args) = charged (name_of b) (own_result macros within b in_splice args)
+comes_to macros within inner in_splice (other_list None bs) = listed (each (within inner false) bs)
+comes_to macros within inner in_splice (other_list (Some name) bs) =
+    if begins_with_dot name then fails (fault 207 name) else listed (each (within inner false) bs)
+
+-- The depth at entry comes before all else.
+abbrev pub of_kind : List Macro → Option Expander → List ℕ → Bool → Kind → Paid Form
+of_kind macros deeper inner in_splice (itself f) = pure f
+of_kind macros deeper inner in_splice kind = do
+  within ← entered deeper (entry_name inner kind)
+  comes_to macros within inner in_splice kind
 
 -- What a form expands to, where lists and symbols that expand may still stand so deep one within another.
 unfoldable pub expanded : List Macro → ℕ → Expander
-expanded macros zero inner in_splice b = expanded_by macros None inner in_splice (out-Body b)
-expanded macros (suc k) inner in_splice b = expanded_by macros (Some (expanded macros k)) inner in_splice (out-Body b)
+expanded macros zero inner in_splice b = of_kind macros None inner in_splice (layer_kind macros (out-Body b))
+expanded macros (suc k) inner in_splice b = of_kind macros (Some (expanded macros k)) inner in_splice (layer_kind macros (out-Body b))
