@@ -4,3 +4,4 @@ pub mod Rules
 pub mod Numbers
 pub mod TopRules
 pub mod ExpandRules
+pub mod LawLemmas

@@ -18,7 +18,7 @@ no_names_in_front None = refl
 abbrev pub name_in_front : List ℕ → Option (List (List ℕ)) → Option (List (List ℕ))
 name_in_front name rest = rest >>= λ names. if is_among name names then None else Some (name ∷ names)
 
-same_text_sym : (a b : List ℕ) → same_text a b ≡ same_text b a
+pub same_text_sym : (a b : List ℕ) → same_text a b ≡ same_text b a
 same_text_sym [] [] = refl
 same_text_sym [] (y ∷ b) = refl
 same_text_sym (x ∷ a) [] = refl

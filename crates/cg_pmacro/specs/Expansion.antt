@@ -333,6 +333,9 @@ layer_kind macros (body.Str s) = itself (form.Str s)
 layer_kind macros (body.Flag b) = itself (form.Flag b)
 layer_kind macros (body.Items bs) = list_kind macros bs
 
+abbrev pub kind_of : List Macro → Body → Kind
+kind_of macros b = layer_kind macros (out-Body b)
+
 -- E204 has the name of the macro, and at a list that isn't a call that of the innermost one around.
 abbrev pub entry_name : List ℕ → Kind → List ℕ
 entry_name inner (macro_symbol name b) = name
@@ -362,5 +365,5 @@ of_kind macros deeper inner in_splice kind = do
 
 -- What a form expands to, where lists and symbols that expand may still stand so deep one within another.
 unfoldable pub expanded : List Macro → ℕ → Expander
-expanded macros zero inner in_splice b = of_kind macros None inner in_splice (layer_kind macros (out-Body b))
-expanded macros (suc k) inner in_splice b = of_kind macros (Some (expanded macros k)) inner in_splice (layer_kind macros (out-Body b))
+expanded macros zero inner in_splice b = of_kind macros None inner in_splice (kind_of macros b)
+expanded macros (suc k) inner in_splice b = of_kind macros (Some (expanded macros k)) inner in_splice (kind_of macros b)

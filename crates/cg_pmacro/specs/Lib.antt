@@ -1,4 +1,4 @@
--- To be read in this order. The last two stand for the private functions alone.
+-- To be read in this order. The last two are what private functions say.
 pub mod Outcome
 pub mod Sizes
 pub mod Shapes
@@ -8,5 +8,6 @@ pub mod Expansion
 pub mod Splitting
 pub mod Definitions
 pub mod Tops
+pub mod Laws
 pub mod Reports
 pub mod Steps
