@@ -1,15 +1,12 @@
 -- The laws of the definitions.
-use Rattle.std.proofs.Common.{◌≡◌, ℕ, suc, ◌+◌, ◌-◌, ◌==◌, ◌&&◌, nat_lt, ◌||◌, is_some, Bool, true, false, ℤ, List, [], ◌∷◌, map, drop, codes, Option, Some, None, Ok, Err, refl, sym, ap, ◌∙◌, if◌then◌else◌, arith}
-use Rattle.std.proofs.lemmas.Grind.{common_steps}
+use Rattle.std.proofs.Common.{◌≡◌, ℕ, suc, ◌+◌, ◌-◌, nat_lt, ◌||◌, is_some, Bool, true, false, ℤ, List, [], ◌∷◌, map, drop, codes, Option, Some, None, Ok, Err, refl, sym, ap, ◌∙◌, if◌then◌else◌, arith}
 use Rattle.std.proofs.lemmas.Bool.Decides.{nat_tests}
-use Rattle.cg_base.specs.declared.form.Form.{Form, out-Form}
+use Rattle.cg_base.specs.declared.form.Form.{Form}
 use Rattle.cg_base.specs.declared.form.Form.TheOpen as layer
 use Rattle.cg_base.specs.declared.form.Form.TheViews as views
 use Rattle.cg_base.specs.declared.form.Form.TheFolds.{fold-roll-Form}
 use Rattle.cg_base.specs.declared.form.Form.TheVariants as form
-use Rattle.cg_pmacro.specs.declared.body.Body.{Body, out-Body}
-use Rattle.cg_pmacro.specs.declared.body.Body.TheOpen as open_body
-use Rattle.cg_pmacro.specs.declared.body.Body.TheOpen.{Body-F}
+use Rattle.cg_pmacro.specs.declared.body.Body.{Body}
 use Rattle.cg_pmacro.specs.declared.body.Body.TheViews.{outs-Number, outs-Symbol, outs-Str, outs-Flag, outs-Items}
 use Rattle.cg_pmacro.specs.declared.body.Body.TheVariants.{Number, Symbol, Str, Flag, Items}
 use Rattle.cg_pmacro.specs.declared.body.Macro.{Macro}
@@ -19,12 +16,11 @@ use Rattle.cg_pmacro.proofs.Names.{same_text_sym}
 use Rattle.cg_pmacro.proofs.ExpandRules.{expanded_number, expanded_symbol, expanded_string, expanded_flag}
 use Rattle.cg_pmacro.specs.Outcome.{Answer, onward, choose, each, fault}
 use Rattle.cg_pmacro.specs.Sizes.{nodes, lists}
-use Rattle.cg_pmacro.specs.Shapes.{◌>>=◌, plain, plain_step, same_text, form_symbol, called, head_name, elements, pmacro_form, pmacro_head, macro_named, begins_with_dot, is_named}
+use Rattle.cg_pmacro.specs.Shapes.{◌>>=◌, plain, plain_step, same_text, called, head_name, elements, pmacro_form, pmacro_head, macro_named, begins_with_dot, is_named}
 use Rattle.cg_pmacro.specs.BuiltIns.{name_of, first_named, built_in, all_built_ins}
-use Rattle.cg_pmacro.specs.Expansion.{Expander, Kind, listed, macro_call, other_list, named_kind, list_kind, layer_kind, kind_of, of_kind, charge, charged, call_written, macro_called, with_arguments, expanded}
+use Rattle.cg_pmacro.specs.Expansion.{Expander, listed, macro_call, other_list, named_kind, list_kind, layer_kind, kind_of, of_kind, charge, call_written, with_arguments, expanded}
 use Rattle.cg_pmacro.specs.Splitting.{first_name}
 use Rattle.cg_pmacro.specs.Laws.{CallLeaves, AtRest, heads_call, none, number, symbol, string, flag, list}
-use Rattle.cg_pmacro.specs.Steps.{further}
 
 -- the charge, by whether too few units are left and whether the result is too deep
 abbrev charged_by : List ℕ → Form → ℕ → Bool → Bool → Answer (Form × ℕ)

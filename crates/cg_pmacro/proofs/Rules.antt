@@ -22,7 +22,7 @@ use Rattle.cg_pmacro.specs.Shapes.{head_name, pmacro_head, macro_named}
 use Rattle.cg_pmacro.specs.BuiltIns.{name_of, built_in, iota_of}
 use Rattle.cg_pmacro.specs.Replacing.{Table, replaced_to, replaced_layer, looked_up, elements_replaced}
 use Rattle.cg_pmacro.proofs.Fronts.{in_front, none_in_front, one_in_front, more_in_front}
-use Rattle.cg_pmacro.specs.Expansion.{Expander, Kind, itself, macro_symbol, macro_call, pmacro_call, own_call, other_list, named_kind, layer_kind, of_kind, entered, macro_called, call_pmacro, with_arguments, without_arguments, expanded, charge, charged, call_of, row, results}
+use Rattle.cg_pmacro.specs.Expansion.{Expander, itself, macro_symbol, macro_call, pmacro_call, own_call, other_list, named_kind, layer_kind, of_kind, entered, macro_called, call_pmacro, with_arguments, without_arguments, expanded, charge, charged, call_of, row, results}
 
 pub replaced_symbol : (k : ℕ) (t : Table) (s : List ℕ) → replaced_to k t (Symbol s) ≡ looked_up t s
 replaced_symbol zero t s = ap (replaced_layer None t (Symbol s)) (outs-Symbol s)

@@ -1,5 +1,5 @@
 -- The macro that a definition defines (docs/LANGUAGE.md, "Macros").
-use Rattle.std.specs.Prelude.{ℕ, Bool, true, false, ◌&&◌, ◌||◌, List, [], ◌∷◌, drop, Option, Some, None, is_some, unwrap_or, Result, Ok, Err, codes, if◌then◌else◌}
+use Rattle.std.specs.Prelude.{ℕ, Bool, true, false, ◌&&◌, ◌||◌, List, [], ◌∷◌, drop, Option, Some, None, is_some, unwrap_or, Ok, Err, codes, if◌then◌else◌}
 use Rattle.cg_pmacro.specs.declared.body.Body.{Body, out-Body}
 use Rattle.cg_pmacro.specs.declared.body.Body.TheOpen as body
 use Rattle.cg_pmacro.specs.declared.body.Body.TheOpen.{Body-F}

@@ -1,5 +1,5 @@
 -- Laws of the definitions: what a call leaves, and which forms don't change.
-use Rattle.std.specs.Prelude.{◌≡◌, ℕ, suc, ◌+◌, Bool, false, ◌||◌, ℤ, List, [], ◌∷◌, Option, None, is_some, Ok}
+use Rattle.std.specs.Prelude.{◌≡◌, ℕ, suc, ◌+◌, Bool, false, ◌||◌, ℤ, List, [], ◌∷◌, None, is_some, Ok}
 use Rattle.cg_base.specs.declared.form.Form.{Form}
 use Rattle.cg_base.specs.declared.form.Form.TheVariants as form
 use Rattle.cg_pmacro.specs.declared.body.Body.{Body}

@@ -1,11 +1,10 @@
 -- Names replaced in a body by the forms that stand for them (docs/LANGUAGE.md, "Macros").
-use Rattle.std.specs.Prelude.{ℕ, zero, suc, Bool, true, false, not, List, [], ◌∷◌, ◌++◌, map, drop, Option, Some, None, codes, if◌then◌else◌}
+use Rattle.std.specs.Prelude.{ℕ, zero, suc, Bool, true, false, not, List, [], ◌∷◌, map, Option, Some, None, codes, if◌then◌else◌}
 use Rattle.std.specs.List.{find, filter, filter_map}
-use Rattle.cg_base.specs.declared.form.Form.{Form}
 use Rattle.cg_pmacro.specs.declared.body.Body.{Body, out-Body}
 use Rattle.cg_pmacro.specs.declared.body.Body.TheOpen as body
 use Rattle.cg_pmacro.specs.declared.body.Body.TheOpen.{Body-F}
-use Rattle.cg_pmacro.specs.declared.body.Body.TheVariants.{Quoted, Number, Symbol, Str, Flag, Items}
+use Rattle.cg_pmacro.specs.declared.body.Body.TheVariants.{Quoted, Symbol, Items}
 use Rattle.cg_pmacro.specs.declared.body.Binding.{Binding}
 use Rattle.cg_pmacro.specs.Outcome.{choose}
 use Rattle.cg_pmacro.specs.Sizes.{levels}

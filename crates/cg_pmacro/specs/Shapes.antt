@@ -1,5 +1,5 @@
 -- What can be seen of a form, and of a form with quoted leaves (docs/LANGUAGE.md, "Macros").
-use Rattle.std.specs.Prelude.{ℕ, Bool, true, false, not, ◌&&◌, ◌==◌, List, [], ◌∷◌, length, filter_map, option_and_then, is_some, Option, Some, None, codes, if◌then◌else◌}
+use Rattle.std.specs.Prelude.{ℕ, Bool, false, ◌==◌, List, [], ◌∷◌, is_some, Option, Some, None, codes, if◌then◌else◌}
 use Rattle.std.specs.List.{list_any, find}
 use Rattle.std.specs.Cmp.Lexicographic.{pointwise}
 use Rattle.cg_base.specs.declared.form.Form.{Form, fold-Form, out-Form}
@@ -10,7 +10,7 @@ use Rattle.cg_base.specs.contracts.form.FormPartialEq.TheImpl as equality
 use Rattle.cg_pmacro.specs.declared.body.Body.{Body, fold-Body, out-Body}
 use Rattle.cg_pmacro.specs.declared.body.Body.TheOpen as body
 use Rattle.cg_pmacro.specs.declared.body.Body.TheOpen.{Body-F}
-use Rattle.cg_pmacro.specs.declared.body.Body.TheVariants.{Quoted, Number, Symbol, Str, Flag, Items}
+use Rattle.cg_pmacro.specs.declared.body.Body.TheVariants.{Number, Symbol, Str, Flag, Items}
 use Rattle.cg_pmacro.specs.declared.body.Macro.{Macro}
 
 infixl 10 ◌>>=◌

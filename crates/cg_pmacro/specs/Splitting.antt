@@ -1,5 +1,5 @@
 -- The forms that the result of an expansion stands for (docs/LANGUAGE.md, "Macros").
-use Rattle.std.specs.Prelude.{ℕ, zero, suc, List, [], ◌∷◌, ◌++◌, drop, Option, None, unwrap_or, Result, Ok, Err, codes, if◌then◌else◌}
+use Rattle.std.specs.Prelude.{ℕ, zero, suc, List, [], ◌∷◌, ◌++◌, drop, Option, None, unwrap_or, Ok, Err, codes, if◌then◌else◌}
 use Rattle.cg_base.specs.declared.form.Form.{Form}
 use Rattle.cg_pmacro.specs.Outcome.{Answer, fault, onward, choose}
 use Rattle.cg_pmacro.specs.Sizes.{lists}

@@ -16,7 +16,7 @@ use Rattle.cg_pmacro.specs.declared.built_in.Manner.TheVariants as way
 use Rattle.cg_pmacro.specs.declared.fault.Fault.{Fault}
 use Rattle.cg_pmacro.specs.declared.fault.Halt.{Halt}
 use Rattle.cg_pmacro.specs.declared.fault.Halt.TheVariants.{Faulty, NoMemory}
-use Rattle.cg_pmacro.specs.Outcome.{Answer, Paid, Run, ◌>>=◌, onward, choose, fault, fails, lift, each, pure}
+use Rattle.cg_pmacro.specs.Outcome.{Answer, Paid, Run, ◌>>=◌, choose, fault, fails, lift, each, pure}
 use Rattle.cg_pmacro.specs.Reports.{Halts}
 use Rattle.cg_pmacro.specs.Sizes.{nodes}
 use Rattle.cg_pmacro.specs.BuiltIns.{name_of, built_in, iota_of, ordinary}

@@ -1,6 +1,5 @@
-use Rattle.std.proofs.Common.{◌≡◌, ◌+◌, ◌∷◌, List, [], ◌++◌, Some, true, false, drop, ap, sym, ◌∙◌, arith}
+use Rattle.std.proofs.Common.{◌≡◌, ◌+◌, ◌∷◌, [], ◌++◌, Some, true, false, drop, ap, sym, ◌∙◌, arith}
 use Rattle.std.proofs.lemmas.Grind.{common_steps}
-use Rattle.cg_pmacro.specs.declared.body.Body.{Body}
 use Rattle.cg_pmacro.specs.Shapes.{own_symbol, is_among, names_of}
 use Rattle.cg_pmacro.proofs.Names.{again, next, names_in_front}
 use Rattle.cg_pmacro.proofs.expander.names_of.Goals as goal
