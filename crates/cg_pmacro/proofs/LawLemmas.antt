@@ -135,6 +135,7 @@ kind_by macros bs None h = refl
 kind_by macros bs (Some s) h = rw (not_macro macros s h) (rw (not_built_in s (not_dotted macros s h)) refl)
 
 rest_kind : (macros : List Macro) (gs : List Form) → Heads gs → choose (first_name gs) (heads_call macros) false ≡ false → list_kind macros (map plain gs) ≡ other_list (first_name gs) (map plain gs)
+unfolding list_kind
 rest_kind macros gs h head = rw h.0 (rw h.1 (kind_by macros (map plain gs) (first_name gs) head))
 
 rest_listed : (macros : List Macro) (within : Expander) (inner : List ℕ) (in_splice : Bool) (bs : List Body) (left : ℕ) (o : Option (List ℕ)) → choose o (heads_call macros) false ≡ false → of_kind macros (Some within) inner in_splice (other_list o bs) left ≡ listed (each (within inner false) bs) left

@@ -1,28 +1,27 @@
 -- The equations of the meanings that recurse on how deep lists may stand.
-use Rattle.std.proofs.Common.{◌≡◌, ◌≢◌, ℕ, zero, suc, ◌+◌, ◌-◌, Bool, false, ℤ, List, [], ◌∷◌, drop, codes, Option, Some, None, Result, Ok, Err, ap, refl, sym, arith}
-use Rattle.std.specs.List.{range_with_len}
+use Rattle.std.proofs.Common.{◌≡◌, ◌≢◌, ℕ, zero, suc, ◌+◌, ◌-◌, Bool, true, false, ℤ, List, [], ◌∷◌, Option, Some, None, Result, Ok, Err, ap, refl, sym, arith}
+use Rattle.std.specs.List.{range_with_len, cons_option}
 use Rattle.std.proofs.lemmas.Grind.{common_steps}
 use Rattle.cg_base.specs.declared.form.Form.{Form}
 use Rattle.cg_base.specs.declared.form.Form.TheVariants as form
-use Rattle.cg_pmacro.specs.declared.body.Body.TheOpen as body
-use Rattle.cg_pmacro.specs.declared.body.Body.TheOpen.{Body-F}
 use Rattle.cg_pmacro.specs.declared.fault.Fault.{Fault}
 use Rattle.cg_pmacro.specs.declared.fault.Halt.{Halt}
 use Rattle.cg_pmacro.specs.declared.fault.Halt.TheVariants.{Faulty, NoMemory}
 use Rattle.cg_pmacro.specs.declared.body.Body.{Body}
 use Rattle.cg_pmacro.specs.declared.body.Body.TheViews.{out-Body, outs-Quoted, outs-Number, outs-Symbol, outs-Str, outs-Flag, outs-Items}
 use Rattle.cg_pmacro.specs.declared.body.Body.TheVariants.{Quoted, Number, Symbol, Str, Flag, Items}
+use Rattle.cg_pmacro.specs.declared.body.Binding.{Binding}
 use Rattle.cg_pmacro.specs.declared.body.Macro.{Macro}
 use Rattle.cg_pmacro.specs.declared.built_in.BuiltIn.TheVariants as own
-use Rattle.cg_pmacro.specs.Outcome.{Answer, Paid, ◌>>=◌, onward, choose, pure, each, lift}
+use Rattle.cg_pmacro.specs.Outcome.{Answer, Paid, ◌>>=◌, onward, choose, each, lift}
 use Rattle.cg_pmacro.specs.Reports.{Answers, Gives, Halts, IsHalt}
-use Rattle.cg_pmacro.specs.Steps.{further, affordable, call_built_in, own_called, plain_list, named_list, entered_plain, list_expanded, expanded_by}
+use Rattle.cg_pmacro.specs.Steps.{further, affordable, call_built_in, hiding}
 use Rattle.cg_pmacro.specs.declared.built_in.BuiltIn.{BuiltIn}
-use Rattle.cg_pmacro.specs.Shapes.{head_name, pmacro_head, macro_named}
-use Rattle.cg_pmacro.specs.BuiltIns.{name_of, built_in, iota_of}
-use Rattle.cg_pmacro.specs.Replacing.{Table, replaced_to, replaced_layer, looked_up, elements_replaced}
+use Rattle.cg_pmacro.specs.Shapes.{head_name, macro_named, same_text, is_among}
+use Rattle.cg_pmacro.specs.BuiltIns.{name_of, iota_of}
+use Rattle.cg_pmacro.specs.Replacing.{Table, without, replaced_to, replaced_layer, looked_up, elements_replaced}
 use Rattle.cg_pmacro.proofs.Fronts.{in_front, none_in_front, one_in_front, more_in_front}
-use Rattle.cg_pmacro.specs.Expansion.{Expander, itself, macro_symbol, macro_call, pmacro_call, own_call, other_list, named_kind, layer_kind, of_kind, entered, macro_called, call_pmacro, with_arguments, without_arguments, expanded, charge, charged, call_of, row, results}
+use Rattle.cg_pmacro.specs.Expansion.{Expander, itself, macro_symbol, symbol_kind, kind_of, of_kind, without_arguments, own_called, expanded, charge, charged, call_of, row, results}
 
 pub replaced_symbol : (k : ℕ) (t : Table) (s : List ℕ) → replaced_to k t (Symbol s) ≡ looked_up t s
 replaced_symbol zero t s = ap (replaced_layer None t (Symbol s)) (outs-Symbol s)
@@ -52,35 +51,18 @@ replaced_items (suc k) t bs h =
 
 pub ruleset replacing_rules = (common_steps, replaced_symbol, replaced_quoted, replaced_number, replaced_string, replaced_flag, replaced_items)
 
--- What a form of a kind comes to is what its steps give.
-named_steps : (macros : List Macro) (deeper : Option Expander) (inner : List ℕ) (spliced : Bool) (name : List ℕ) (bs : List Body) (left : ℕ) (m : Option (List (List ℕ) × Body)) (b : Option BuiltIn) → of_kind macros deeper inner spliced (choose m (λ p. macro_call name p.0 p.1 (drop 1 bs)) (choose b (λ c. own_call c (drop 1 bs)) (other_list (Some name) bs))) left ≡ choose m (λ p. entered deeper name >>= λ within. macro_called within name p.0 p.1 (drop 1 bs)) (choose b (λ c. entered deeper (name_of c) >>= λ within. own_called macros within c spliced (drop 1 bs)) (entered deeper inner >>= λ within. plain_list within inner (Some name) bs)) left
-unfolding own_called
-named_steps macros deeper inner spliced name bs left (Some p) b = refl
-named_steps macros deeper inner spliced name bs left None (Some c) = refl
-named_steps macros deeper inner spliced name bs left None None = refl
-
-list_steps : (macros : List Macro) (deeper : Option Expander) (inner : List ℕ) (spliced : Bool) (bs : List Body) (left : ℕ) (form : Option (List Body)) (head : Option (List ℕ)) → of_kind macros deeper inner spliced (choose form (λ p. pmacro_call p (drop 1 bs)) (choose head (λ name. named_kind macros name bs) (other_list None bs))) left ≡ choose form (λ p. entered deeper (codes ".pmacro") >>= λ within. call_pmacro within p (drop 1 bs)) (choose head (λ name. named_list macros deeper inner spliced name bs) (entered_plain deeper inner bs)) left
-list_steps macros deeper inner spliced bs left (Some p) head = refl
-list_steps macros deeper inner spliced bs left None (Some name) = named_steps macros deeper inner spliced name bs left (with_arguments (macro_named macros name)) (built_in name)
-list_steps macros deeper inner spliced bs left None None = refl
-
-symbol_steps : (macros : List Macro) (deeper : Option Expander) (inner : List ℕ) (spliced : Bool) (s : List ℕ) (left : ℕ) (b : Option Body) → of_kind macros deeper inner spliced (choose b (macro_symbol s) (itself (form.Symbol s))) left ≡ choose b (λ c. entered deeper s >>= λ within. charged s (within s false c)) (pure (form.Symbol s)) left
-symbol_steps macros deeper inner spliced s left (Some b) = refl
-symbol_steps macros deeper inner spliced s left None = refl
-
-kind_steps : (macros : List Macro) (deeper : Option Expander) (inner : List ℕ) (spliced : Bool) (b : Body-F Body) (left : ℕ) → of_kind macros deeper inner spliced (layer_kind macros b) left ≡ expanded_by macros deeper inner spliced b left
-unfolding list_expanded
-kind_steps macros deeper inner spliced (body.Quoted f) left = refl
-kind_steps macros deeper inner spliced (body.Number n) left = refl
-kind_steps macros deeper inner spliced (body.Symbol s) left = symbol_steps macros deeper inner spliced s left (without_arguments (macro_named macros s))
-kind_steps macros deeper inner spliced (body.Str s) left = refl
-kind_steps macros deeper inner spliced (body.Flag b) left = refl
-kind_steps macros deeper inner spliced (body.Items bs) left = list_steps macros deeper inner spliced bs left (pmacro_head bs) (head_name bs)
-
-pub expanded_out : (macros : List Macro) (k : ℕ) (inner : List ℕ) (spliced : Bool) (b : Body) (left : ℕ) → expanded macros k inner spliced b left ≡ expanded_by macros (further macros k) inner spliced (out-Body b) left
+pub expanded_out : (macros : List Macro) (k : ℕ) (inner : List ℕ) (spliced : Bool) (b : Body) (left : ℕ) → expanded macros k inner spliced b left ≡ of_kind macros (further macros k) inner spliced (kind_of macros b) left
 unfolding expanded
-expanded_out macros zero inner spliced b left = kind_steps macros None inner spliced (out-Body b) left
-expanded_out macros (suc k) inner spliced b left = kind_steps macros (Some (expanded macros k)) inner spliced (out-Body b) left
+expanded_out macros zero inner spliced b left = refl
+expanded_out macros (suc k) inner spliced b left = refl
+
+-- Where a symbol stands doesn't matter, nor whether a list that isn't a call is an argument of `.splice`.
+pub symbol_anywhere : (macros : List Macro) (deeper : Option Expander) (inner : List ℕ) (spliced : Bool) (s : List ℕ) (left : ℕ) → of_kind macros deeper inner spliced (symbol_kind macros s) left ≡ of_kind macros deeper [] false (symbol_kind macros s) left
+symbol_anywhere macros deeper inner spliced s left = by_body (without_arguments (macro_named macros s))
+  where
+    by_body : (b : Option Body) → of_kind macros deeper inner spliced (choose b (macro_symbol s) (itself (form.Symbol s))) left ≡ of_kind macros deeper [] false (choose b (macro_symbol s) (itself (form.Symbol s))) left
+    by_body None = refl
+    by_body (Some b) = refl
 
 pub further_none : (macros : List Macro) (k : ℕ) → k ≡ 0 → further macros k ≡ None
 further_none macros zero h = refl
@@ -129,3 +111,27 @@ own_called_by macros within own.Iota spliced args left = sym (charged_iota (name
 own_called_by macros within b spliced args left = refl
 
 pub ruleset expansion_rules = (common_steps, none_in_front, one_in_front, more_in_front, results_none, results_more, expanded_out, further_none, further_some, halts_of, gives_lifted, own_called_by)
+
+-- Names that are hidden one after another are hidden together.
+hidden_first : (b : Binding) (table : Table) (name : List ℕ) (names : List (List ℕ)) (here there : Bool) → same_text name b.name ≡ here → is_among b.name names ≡ there → without (without table (name ∷ [])) names ≡ without table (name ∷ names) → without (without (b ∷ table) (name ∷ [])) names ≡ without (b ∷ table) (name ∷ names)
+hidden_first b table name names true there h e rest = rw h rest
+hidden_first b table name names false true h e rest = rw h (rw e rest)
+hidden_first b table name names false false h e rest = rw h (rw e (ap (λ t. b ∷ t) rest))
+
+hidden_twice : (table : Table) (name : List ℕ) (names : List (List ℕ)) → without (without table (name ∷ [])) names ≡ without table (name ∷ names)
+hidden_twice [] name names = refl
+hidden_twice (b ∷ table) name names = hidden_first b table name names (same_text name b.name) (is_among b.name names) refl refl (hidden_twice table name names)
+
+pub hidden_next : (table : Table) (name : Option (List ℕ)) (names : List (List ℕ)) → without (hiding table name) names ≡ without table (cons_option name names)
+hidden_next table None names = refl
+hidden_next table (Some name) names = hidden_twice table name names
+
+pub none_hidden : (table : Table) → without table [] ≡ table
+none_hidden [] = refl
+none_hidden (b ∷ table) = ap (λ t. b ∷ t) (none_hidden table)
+
+pub hidden_one : (table : Table) (name : Option (List ℕ)) → without table (cons_option name []) ≡ hiding table name
+hidden_one table None = none_hidden table
+hidden_one table (Some name) = refl
+
+pub ruleset hiding_rules = (common_steps, hidden_next, none_hidden, hidden_one)

@@ -295,7 +295,13 @@ own_result macros within own.Apply in_splice args = call_over macros within own.
 own_result macros within own.Iota in_splice args = each (within (name_of own.Iota) false) args >>= λ fs. lift (iota_of fs)
 own_result macros within b in_splice args = each (within (name_of b) false) args >>= λ fs. lift (ordinary b in_splice fs)
 
--- What a form is to expansion.
+-- a call of a built-in macro, with its cost
+unfoldable pub own_called : List Macro → Expander → BuiltIn → Bool → List Body → Paid Form
+own_called macros within b in_splice args = charged (name_of b) (own_result macros within b in_splice args)
+
+-- What a form is to expansion: a form that is itself; a symbol that names a macro without arguments, and its body; a call of a
+-- macro by its name, with its formals, its body and the arguments; of a `.pmacro` form; of a built-in macro; or a list that
+-- isn't a call, with the symbol that heads it.
 pub data Kind : Type 0 where
   itself : Form → Kind
   macro_symbol : List ℕ → Body → Kind
@@ -309,6 +315,10 @@ abbrev pub without_arguments : Option Macro → Option Body
 without_arguments None = None
 without_arguments (Some m) = choose m.formals (λ names. None) (Some m.body)
 
+-- A symbol that names a macro without arguments stands for its body. Another symbol is itself.
+abbrev pub symbol_kind : List Macro → List ℕ → Kind
+symbol_kind macros s = choose (without_arguments (macro_named macros s)) (macro_symbol s) (itself (form.Symbol s))
+
 -- A list whose head is a symbol that names a macro with arguments or a built-in macro is a call.
 abbrev pub named_kind : List Macro → List ℕ → List Body → Kind
 named_kind macros name bs =
@@ -317,18 +327,17 @@ named_kind macros name bs =
     (choose (built_in name) (λ b. own_call b (drop 1 bs)) (other_list (Some name) bs))
 
 -- So is one whose head is a `.pmacro` form. Any other isn't.
-abbrev pub list_kind : List Macro → List Body → Kind
+unfoldable pub list_kind : List Macro → List Body → Kind
 list_kind macros bs =
     choose (pmacro_head bs)
     (λ form. pmacro_call form (drop 1 bs))
     (choose (head_name bs) (λ name. named_kind macros name bs) (other_list None bs))
 
--- A quoted leaf is its content and nothing else. A number, a string, a flag and a symbol that names no macro without arguments
--- is itself.
+-- A quoted leaf is its content and nothing else. A number, a string or a flag is itself.
 abbrev pub layer_kind : List Macro → Body-F Body → Kind
 layer_kind macros (body.Quoted f) = itself f
 layer_kind macros (body.Number n) = itself (form.Number n)
-layer_kind macros (body.Symbol s) = choose (without_arguments (macro_named macros s)) (macro_symbol s) (itself (form.Symbol s))
+layer_kind macros (body.Symbol s) = symbol_kind macros s
 layer_kind macros (body.Str s) = itself (form.Str s)
 layer_kind macros (body.Flag b) = itself (form.Flag b)
 layer_kind macros (body.Items bs) = list_kind macros bs
@@ -351,7 +360,7 @@ comes_to macros within inner in_splice (itself f) = pure f
 comes_to macros within inner in_splice (macro_symbol name b) = charged name (within name false b)
 comes_to macros within inner in_splice (macro_call name formals b args) = macro_called within name formals b args
 comes_to macros within inner in_splice (pmacro_call form args) = call_pmacro within form args
-comes_to macros within inner in_splice (own_call b args) = charged (name_of b) (own_result macros within b in_splice args)
+comes_to macros within inner in_splice (own_call b args) = own_called macros within b in_splice args
 comes_to macros within inner in_splice (other_list None bs) = listed (each (within inner false) bs)
 comes_to macros within inner in_splice (other_list (Some name) bs) =
     if begins_with_dot name then fails (fault 207 name) else listed (each (within inner false) bs)

@@ -30,10 +30,9 @@ symbols_among bs = filter_map own_symbol bs
 abbrev pub bound_name : Body → Option (List ℕ)
 bound_name b = choose (elements b) first_symbol None
 
--- the table behind a binding, which hides its name from what comes
-abbrev pub hiding : Table → Option (List ℕ) → Table
-hiding table None = table
-hiding table (Some name) = without table (name ∷ [])
+-- The names that bindings bind are hidden from what they bind.
+abbrev pub hidden : Table → List Body → Table
+hidden table bs = without table (filter_map bound_name bs)
 
 -- how a name is replaced in a form that stands one list further in
 abbrev pub Replacer : Type 0
@@ -48,15 +47,10 @@ kept_first within table (b ∷ bs) = b ∷ map (within table) bs
 abbrev pub binding_replaced : Replacer → Table → Body → Body
 binding_replaced within table b = choose (bound_name b) (λ name. choose (elements b) (λ bs. Items (kept_first within table bs)) b) (within table b)
 
--- the table for what stands behind bindings, which hide their names
-abbrev pub hidden : Table → List Body → Table
-hidden table [] = table
-hidden table (b ∷ bs) = hidden (hiding table (bound_name b)) bs
-
--- the bindings of a `.let*`, each with the table for what stands behind those before it
+-- the bindings of a `.let*`, in each of which the names that those before it bind are hidden
 abbrev pub in_order : Replacer → Table → List Body → List Body
 in_order within table [] = []
-in_order within table (b ∷ bs) = binding_replaced within table b ∷ in_order within (hiding table (bound_name b)) bs
+in_order within table (b ∷ bs) = binding_replaced within table b ∷ in_order within (hidden table (b ∷ [])) bs
 
 -- the bindings of a `.let`, which don't see one another, or of a `.let*`
 abbrev pub bindings_replaced : Replacer → Bool → Table → List Body → List Body

@@ -103,46 +103,7 @@ call_built_in macros within b spliced args = call_by (manner b) macros within b 
 abbrev pub with_binding : Bool → Table → List ℕ → Form → Table
 with_binding ordered table name value = (if ordered then without table (name ∷ []) else table) ++ record { name = name; value = value } ∷ []
 
--- a call of a built-in macro, with its cost
-unfoldable pub own_called : List Macro → Expander → BuiltIn → Bool → List Body → Paid Form
-own_called macros within b in_splice args = charged (name_of b) (own_result macros within b in_splice args)
-
--- a list that isn't a call
-abbrev pub plain_list : Expander → List ℕ → Option (List ℕ) → List Body → Paid Form
-plain_list within inner None bs = listed (each (within inner false) bs)
-plain_list within inner (Some name) bs = if begins_with_dot name then fails (fault 207 name) else listed (each (within inner false) bs)
-
--- a list whose head is a symbol
-abbrev pub named_list : List Macro → Option Expander → List ℕ → Bool → List ℕ → List Body → Paid Form
-named_list macros deeper inner in_splice name bs =
-    choose (with_arguments (macro_named macros name))
-    (λ m. entered deeper name >>= λ within. macro_called within name m.0 m.1 (drop 1 bs))
-    (choose (built_in name)
-    (λ b. entered deeper (name_of b) >>= λ within. own_called macros within b in_splice (drop 1 bs))
-    (entered deeper inner >>= λ within. plain_list within inner (Some name) bs))
-
-abbrev pub entered_plain : Option Expander → List ℕ → List Body → Paid Form
-entered_plain deeper inner bs = entered deeper inner >>= λ within. plain_list within inner None bs
-
--- a list
-unfoldable pub list_expanded : List Macro → Option Expander → List ℕ → Bool → List Body → Paid Form
-list_expanded macros deeper inner in_splice bs =
-    choose (pmacro_head bs)
-    (λ form. entered deeper (codes ".pmacro") >>= λ within. call_pmacro within form (drop 1 bs))
-    (choose (head_name bs) (λ name. named_list macros deeper inner in_splice name bs) (entered_plain deeper inner bs))
-
--- a symbol
-abbrev pub symbol_expanded : List Macro → Option Expander → List ℕ → Paid Form
-symbol_expanded macros deeper name =
-    choose (without_arguments (macro_named macros name))
-    (λ b. entered deeper name >>= λ within. charged name (within name false b))
-    (pure (form.Symbol name))
-
--- one level of a form
-abbrev pub expanded_by : List Macro → Option Expander → List ℕ → Bool → Body-F Body → Paid Form
-expanded_by macros deeper inner in_splice (body.Quoted f) = pure f
-expanded_by macros deeper inner in_splice (body.Number n) = pure (form.Number n)
-expanded_by macros deeper inner in_splice (body.Symbol s) = symbol_expanded macros deeper s
-expanded_by macros deeper inner in_splice (body.Str s) = pure (form.Str s)
-expanded_by macros deeper inner in_splice (body.Flag b) = pure (form.Flag b)
-expanded_by macros deeper inner in_splice (body.Items bs) = list_expanded macros deeper inner in_splice bs
+-- what hides a binding's name from what stands behind it
+abbrev pub hiding : Table → Option (List ℕ) → Table
+hiding table None = table
+hiding table (Some name) = without table (name ∷ [])

@@ -1,4 +1,4 @@
-ghost use Rattle.std.specs.Prelude.{◌≡◌, false, [], ◌∷◌, ◌++◌, drop, slice_get, OnOk, IfOk};
+ghost use Rattle.std.specs.Prelude.{◌≡◌, false, [], ◌∷◌, ◌++◌, drop, slice_get, None, OnOk, IfOk};
 ghost use Rattle.std.specs.Option.{option_copied, option_map};
 ghost use Rattle.std.specs.List.{list_all};
 ghost use Rattle.cg_base.specs.declared.form.Form.TheVariants.{Symbol, Str, Items};
@@ -97,7 +97,7 @@ fn expand_symbol(
     name: &Text,
     left: &mut u64,
 ) -> Result<Value, Halt>
-    ensures { Gives (steps.symbol_expanded macros.now (steps.further macros.now depth) name.now left.old) result left.new }
+    ensures { Gives (meant.of_kind macros.now (steps.further macros.now depth) [] false (meant.symbol_kind macros.now name.now) left.old) result left.new }
 {
     let Some(found) = macro_named(macros, name.as_slice()) else {
         return Ok(symbol(alloc, name)?);
@@ -121,7 +121,7 @@ fn expand_symbol(
 }
 
 #[cycle(expansion)]
-#[tactic(auto, using(crate::proofs::Rules::expansion_rules), unfolding(crate::specs::Steps::list_expanded))]
+#[tactic(auto, using(crate::proofs::Rules::expansion_rules), unfolding(crate::specs::Expansion::list_kind))]
 #[inline(never)]
 fn expand_list(
     alloc: Global,
@@ -132,7 +132,7 @@ fn expand_list(
     items: &[Body],
     left: &mut u64,
 ) -> Result<Value, Halt>
-    ensures { Gives (steps.list_expanded macros.now (steps.further macros.now depth) inner.now spliced items.now left.old) result left.new }
+    ensures { Gives (meant.of_kind macros.now (steps.further macros.now depth) inner.now spliced (meant.list_kind macros.now items.now) left.old) result left.new }
 {
     let Some(head) = items.first() else {
         return expand_plain(alloc, macros, depth, inner, items, left);
@@ -178,7 +178,7 @@ fn expand_named(
     left: &mut u64,
 ) -> Result<Value, Halt>
     requires { args.now ≡ drop 1 items.now }
-    ensures { Gives (steps.named_list macros.now (steps.further macros.now depth) inner.now spliced name.now items.now left.old) result left.new }
+    ensures { Gives (meant.of_kind macros.now (steps.further macros.now depth) inner.now spliced (meant.named_kind macros.now name.now items.now) left.old) result left.new }
 {
     if let Some((formals, body)) = with_arguments(macros, name) {
         if depth == 0 {
@@ -224,7 +224,7 @@ fn expand_plain(
     items: &[Body],
     left: &mut u64,
 ) -> Result<Value, Halt>
-    ensures { Gives (steps.entered_plain (steps.further macros.now depth) inner.now items.now left.old) result left.new }
+    ensures { Gives (meant.of_kind macros.now (steps.further macros.now depth) inner.now false (meant.other_list None items.now) left.old) result left.new }
 {
     if depth == 0 {
         return Err(faulty(alloc, 204, inner));
@@ -275,7 +275,7 @@ fn call_own(
     items: &[Body],
     left: &mut u64,
 ) -> Result<Value, Halt>
-    ensures { Gives (steps.own_called macros.now (meant.expanded macros.now depth) of spliced items.now left.old) result left.new }
+    ensures { Gives (meant.own_called macros.now (meant.expanded macros.now depth) of spliced items.now left.old) result left.new }
 {
     let value = call_built_in(alloc, macros, depth, of, spliced, items, left)?;
     Ok(charge(alloc, of.name(), value, left)?)

@@ -1,6 +1,7 @@
 ghost use Rattle.std.specs.Prelude.{◌≡◌, ◌++◌, [], ◌∷◌, map, Some, OnOk, IfOk, if◌then◌else◌};
 ghost use Rattle.std.specs.Option.{option_copied};
 ghost use Rattle.cg_pmacro.specs.Replacing as meant;
+ghost use Rattle.cg_pmacro.specs.Steps.{hiding as hiding_of};
 ghost use Rattle.cg_pmacro.specs.Shapes.{head_name, first_symbol as first_symbol_of};
 
 use crate::body::{Binding, Body};
@@ -101,7 +102,7 @@ fn copy_of(alloc: Global, table: &[Binding]) -> Result<List<Binding>, NoMemory>
 }
 
 fn hide(alloc: Global, table: &mut List<Binding>, name: Option<&Text>) -> Result<(), NoMemory>
-    ensures { OnOk result (table.new ≡ meant.hiding table.old (option_copied name.entry)) }
+    ensures { OnOk result (table.new ≡ hiding_of table.old (option_copied name.entry)) }
 {
     if let Some(name) = name {
         *table = without_name(alloc, table.as_slice(), name)?;
@@ -227,6 +228,7 @@ fn push_let(
 
 /// The bindings replaced; `later` becomes the table for what comes behind them.
 #[cycle(replacing)]
+#[tactic(auto, using(crate::proofs::Rules::hiding_rules))]
 fn bindings_replaced(
     alloc: Global,
     levels: u64,
