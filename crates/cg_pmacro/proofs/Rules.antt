@@ -1,20 +1,27 @@
 -- The equations of the meanings that recurse on how deep lists may stand.
-use Rattle.std.proofs.Common.{◌≡◌, ◌≢◌, ℕ, zero, suc, ◌+◌, ◌-◌, Bool, false, ℤ, List, [], ◌∷◌, ◌++◌, Option, Some, None, Result, Ok, Err, ap, refl, arith}
+use Rattle.std.proofs.Common.{◌≡◌, ◌≢◌, ℕ, zero, suc, ◌+◌, ◌-◌, Bool, true, false, ℤ, List, [], ◌∷◌, Option, Some, None, Result, Ok, Err, ap, refl, sym, arith}
+use Rattle.std.specs.List.{range_with_len, cons_option}
 use Rattle.std.proofs.lemmas.Grind.{common_steps}
 use Rattle.cg_base.specs.declared.form.Form.{Form}
+use Rattle.cg_base.specs.declared.form.Form.TheVariants as form
 use Rattle.cg_pmacro.specs.declared.fault.Fault.{Fault}
 use Rattle.cg_pmacro.specs.declared.fault.Halt.{Halt}
 use Rattle.cg_pmacro.specs.declared.fault.Halt.TheVariants.{Faulty, NoMemory}
 use Rattle.cg_pmacro.specs.declared.body.Body.{Body}
 use Rattle.cg_pmacro.specs.declared.body.Body.TheViews.{out-Body, outs-Quoted, outs-Number, outs-Symbol, outs-Str, outs-Flag, outs-Items}
 use Rattle.cg_pmacro.specs.declared.body.Body.TheVariants.{Quoted, Number, Symbol, Str, Flag, Items}
+use Rattle.cg_pmacro.specs.declared.body.Binding.{Binding}
 use Rattle.cg_pmacro.specs.declared.body.Macro.{Macro}
-use Rattle.cg_pmacro.specs.Outcome.{Answer, and_then, Answers, Gives, Halts, IsHalt, lift}
+use Rattle.cg_pmacro.specs.declared.built_in.BuiltIn.TheVariants as own
+use Rattle.cg_pmacro.specs.Outcome.{Answer, Paid, ◌>>=◌, onward, choose, each, lift}
+use Rattle.cg_pmacro.specs.Reports.{Answers, Gives, Halts, IsHalt}
+use Rattle.cg_pmacro.specs.Steps.{further, affordable, call_built_in, hiding}
 use Rattle.cg_pmacro.specs.declared.built_in.BuiltIn.{BuiltIn}
-use Rattle.cg_pmacro.specs.Shapes.{head_name}
-use Rattle.cg_pmacro.specs.BuiltIns.{name_of}
-use Rattle.cg_pmacro.specs.Replacing.{Table, replaced_to, replaced_layer, looked_up, elements_replaced}
-use Rattle.cg_pmacro.specs.Expansion.{Expander, expanded, further, level, calls, call_of, row}
+use Rattle.cg_pmacro.specs.Shapes.{head_name, macro_named, same_text, is_among}
+use Rattle.cg_pmacro.specs.BuiltIns.{name_of, iota_of}
+use Rattle.cg_pmacro.specs.Replacing.{Table, without, replaced_to, replaced_layer, looked_up, elements_replaced}
+use Rattle.cg_pmacro.proofs.Fronts.{in_front, none_in_front, one_in_front, more_in_front}
+use Rattle.cg_pmacro.specs.Expansion.{Expander, itself, macro_symbol, symbol_kind, kind_of, of_kind, without_arguments, own_called, expanded, charge, charged, call_of, row, results}
 
 pub replaced_symbol : (k : ℕ) (t : Table) (s : List ℕ) → replaced_to k t (Symbol s) ≡ looked_up t s
 replaced_symbol zero t s = ap (replaced_layer None t (Symbol s)) (outs-Symbol s)
@@ -44,10 +51,18 @@ replaced_items (suc k) t bs h =
 
 pub ruleset replacing_rules = (common_steps, replaced_symbol, replaced_quoted, replaced_number, replaced_string, replaced_flag, replaced_items)
 
-pub expanded_out : (macros : List Macro) (k : ℕ) (inner : List ℕ) (spliced : Bool) (b : Body) (left : ℕ) → expanded macros k inner spliced b left ≡ level macros (further macros k) inner spliced (out-Body b) left
+pub expanded_out : (macros : List Macro) (k : ℕ) (inner : List ℕ) (spliced : Bool) (b : Body) (left : ℕ) → expanded macros k inner spliced b left ≡ of_kind macros (further macros k) inner spliced (kind_of macros b) left
 unfolding expanded
 expanded_out macros zero inner spliced b left = refl
 expanded_out macros (suc k) inner spliced b left = refl
+
+-- Where a symbol stands doesn't matter, nor whether a list that isn't a call is an argument of `.splice`.
+pub symbol_anywhere : (macros : List Macro) (deeper : Option Expander) (inner : List ℕ) (spliced : Bool) (s : List ℕ) (left : ℕ) → of_kind macros deeper inner spliced (symbol_kind macros s) left ≡ of_kind macros deeper [] false (symbol_kind macros s) left
+symbol_anywhere macros deeper inner spliced s left = by_body (without_arguments (macro_named macros s))
+  where
+    by_body : (b : Option Body) → of_kind macros deeper inner spliced (choose b (macro_symbol s) (itself (form.Symbol s))) left ≡ of_kind macros deeper [] false (choose b (macro_symbol s) (itself (form.Symbol s))) left
+    by_body None = refl
+    by_body (Some b) = refl
 
 pub further_none : (macros : List Macro) (k : ℕ) → k ≡ 0 → further macros k ≡ None
 further_none macros zero h = refl
@@ -69,12 +84,54 @@ gives_lifted (Err x) (Err NoMemory) left e = tt
 gives_lifted (Ok a) (Err (Faulty y)) left e = absurd (cc)
 gives_lifted (Err x) (Err (Faulty y)) left e = cc
 
-pub calls_none : (w : Expander) (b : BuiltIn) (m : Body) (ls done : List Form) (n k left : ℕ) → n ≡ 0 → calls w b m ls done n k left ≡ Ok (done, left)
-calls_none w b m ls done zero k left h = refl
-calls_none w b m ls done (suc n) k left h = absurd (omega arith)
+pub results_none : (within : Expander) (b : BuiltIn) (m : Body) (ls : List Form) (k n left : ℕ) → n ≡ 0 → results within b m ls (range_with_len k n) left ≡ Ok ([], left)
+results_none within b m ls k zero left h = refl
+results_none within b m ls k (suc n) left h = absurd (omega arith)
 
-pub calls_more : (w : Expander) (b : BuiltIn) (m : Body) (ls done : List Form) (n k left : ℕ) → n ≢ 0 → calls w b m ls done n k left ≡ and_then (w (name_of b) false (call_of m (row k ls)) left) (λ f rest. calls w b m ls (done ++ f ∷ []) (n - 1) (k + 1) rest)
-calls_more w b m ls done zero k left h = absurd (h refl)
-calls_more w b m ls done (suc n) k left h = let e : suc n - 1 ≡ n = omega arith in rw e refl
+pub results_more : (within : Expander) (b : BuiltIn) (m : Body) (ls : List Form) (k n left : ℕ) → n ≢ 0 → results within b m ls (range_with_len k n) left ≡ onward (within (name_of b) false (call_of m (row k ls)) left) (λ r. in_front (r.0 ∷ []) (results within b m ls (range_with_len (k + 1) (n - 1)) r.1))
+results_more within b m ls k zero left h = absurd (h refl)
+results_more within b m ls k (suc n) left h = let e : suc n - 1 ≡ n = omega arith in rw e refl
 
-pub ruleset expansion_rules = (common_steps, calls_none, calls_more, expanded_out, further_none, further_some, halts_of, gives_lifted)
+-- The cost of an answer that is too much is refused, whether it is tested before or charged.
+charged_lifted : (name : List ℕ) (left : ℕ) (out : Answer Form) → charged name (lift (affordable left out)) left ≡ charged name (lift out) left
+charged_lifted name left (Ok f) = grind arith
+charged_lifted name left (Err x) = refl
+
+charged_iota : (name : List ℕ) (args : Paid (List Form)) (made : List Form → Answer Form) (left : ℕ) → charged name (args >>= λ fs rest. lift (affordable rest (made fs)) rest) left ≡ charged name (args >>= λ fs. lift (made fs)) left
+charged_iota name args made left = of_args (args left)
+  where
+    of_args : (out : Answer (List Form × ℕ)) → onward (onward out (λ r. lift (affordable r.1 (made r.0)) r.1)) (λ r. charge name r.0 r.1) ≡ onward (onward out (λ r. lift (made r.0) r.1)) (λ r. charge name r.0 r.1)
+    of_args (Ok r) = charged_lifted name r.1 (made r.0)
+    of_args (Err x) = refl
+
+-- A call of a built-in by its manner gives what the built-in gives.
+pub own_called_by : (macros : List Macro) (within : Expander) (b : BuiltIn) (spliced : Bool) (args : List Body) (left : ℕ) → own_called macros within b spliced args left ≡ charged (name_of b) (call_built_in macros within b spliced args) left
+unfolding own_called
+own_called_by macros within own.Iota spliced args left = sym (charged_iota (name_of own.Iota) (each (within (name_of own.Iota) false) args) iota_of left)
+own_called_by macros within b spliced args left = refl
+
+pub ruleset expansion_rules = (common_steps, none_in_front, one_in_front, more_in_front, results_none, results_more, expanded_out, further_none, further_some, halts_of, gives_lifted, own_called_by)
+
+-- Names that are hidden one after another are hidden together.
+hidden_first : (b : Binding) (table : Table) (name : List ℕ) (names : List (List ℕ)) (here there : Bool) → same_text name b.name ≡ here → is_among b.name names ≡ there → without (without table (name ∷ [])) names ≡ without table (name ∷ names) → without (without (b ∷ table) (name ∷ [])) names ≡ without (b ∷ table) (name ∷ names)
+hidden_first b table name names true there h e rest = rw h rest
+hidden_first b table name names false true h e rest = rw h (rw e rest)
+hidden_first b table name names false false h e rest = rw h (rw e (ap (λ t. b ∷ t) rest))
+
+hidden_twice : (table : Table) (name : List ℕ) (names : List (List ℕ)) → without (without table (name ∷ [])) names ≡ without table (name ∷ names)
+hidden_twice [] name names = refl
+hidden_twice (b ∷ table) name names = hidden_first b table name names (same_text name b.name) (is_among b.name names) refl refl (hidden_twice table name names)
+
+pub hidden_next : (table : Table) (name : Option (List ℕ)) (names : List (List ℕ)) → without (hiding table name) names ≡ without table (cons_option name names)
+hidden_next table None names = refl
+hidden_next table (Some name) names = hidden_twice table name names
+
+pub none_hidden : (table : Table) → without table [] ≡ table
+none_hidden [] = refl
+none_hidden (b ∷ table) = ap (λ t. b ∷ t) (none_hidden table)
+
+pub hidden_one : (table : Table) (name : Option (List ℕ)) → without table (cons_option name []) ≡ hiding table name
+hidden_one table None = none_hidden table
+hidden_one table (Some name) = refl
+
+pub ruleset hiding_rules = (common_steps, hidden_next, none_hidden, hidden_one)

@@ -1,5 +1,6 @@
--- The language's own macros: their names, and what those are whose arguments are all expanded before.
-use Rattle.std.specs.Prelude.{ℕ, zero, suc, ◌+◌, ◌-◌, ◌/◌, ◌%◌, ◌^◌, ◌==◌, nat_lt, nat_le, Bool, true, false, not, ◌&&◌, ◌||◌, ℤ, pos, negsuc, ◌+ℤ◌, ◌-ℤ◌, ◌*ℤ◌, int_lt, List, [], ◌∷◌, ◌++◌, map, length, take, drop, slice_get, Option, Some, None, Result, Ok, Err, codes, if◌then◌else◌}
+-- The language's own macros: their names, and what those give that expand all their arguments before
+-- (docs/LANGUAGE.md, "Macros").
+use Rattle.std.specs.Prelude.{ℕ, zero, suc, ◌+◌, ◌-◌, ◌/◌, ◌%◌, ◌^◌, ◌==◌, nat_lt, nat_le, Bool, true, false, not, ◌&&◌, ◌||◌, ℤ, pos, negsuc, ◌+ℤ◌, ◌-ℤ◌, ◌*ℤ◌, int_lt, List, [], ◌∷◌, ◌++◌, map, length, take, drop, slice_get, Option, Some, None, ok_or, Ok, Err, codes, if◌then◌else◌}
 use Rattle.std.specs.Fmt.{signed_decimal}
 use Rattle.std.specs.List.{find}
 use Rattle.cg_base.specs.declared.form.Form.{Form, out-Form}
@@ -9,8 +10,12 @@ use Rattle.cg_base.specs.declared.form.Form.TheVariants.{Number, Symbol, Str, Fl
 use Rattle.cg_pmacro.specs.declared.built_in.BuiltIn.{BuiltIn}
 use Rattle.cg_pmacro.specs.declared.built_in.BuiltIn.TheVariants as own
 use Rattle.cg_pmacro.specs.declared.fault.Fault.{Fault}
-use Rattle.cg_pmacro.specs.Outcome.{Answer, fault, choose, or_fault, onward}
-use Rattle.cg_pmacro.specs.Shapes.{same_text, same_form}
+use Rattle.cg_pmacro.specs.Outcome.{Answer, fault, onward}
+use Rattle.cg_pmacro.specs.Shapes.{same_text, same_form, form_elements}
+
+infixl 10 ◌>>=◌
+abbrev ◌>>=◌ : {A B : Type 0} → Answer A → (A → Answer B) → Answer B
+first >>= next = onward first next
 
 abbrev pub name_of : BuiltIn → List ℕ
 name_of own.Sym = codes ".sym"
@@ -58,7 +63,7 @@ first_named all name = find (λ b. same_text (name_of b) name) all
 unfoldable pub built_in : List ℕ → Option BuiltIn
 built_in name = first_named all_built_ins name
 
--- These take what they expand themselves, and can't be mapped or applied.
+-- The six that expand only what they take. They can't be mapped or applied.
 abbrev pub is_lazy : BuiltIn → Bool
 is_lazy own.If = true
 is_lazy own.Cond = true
@@ -76,29 +81,13 @@ miscounted b = fault 201 (name_of b)
 abbrev pub misfit : BuiltIn → Fault
 misfit b = fault 202 (name_of b)
 
-abbrev pub number_layer : Form-F Form → Option ℤ
-number_layer (layer.Number n) = Some n
-number_layer _ = None
+abbrev pub number_in : Form-F Form → Option ℤ
+number_in (layer.Number n) = Some n
+number_in _ = None
 
--- the number that a form is
-abbrev pub number : Form → Option ℤ
-number f = number_layer (out-Form f)
-
-abbrev pub not_negative : Option ℤ → Option ℕ
-not_negative (Some (pos n)) = Some n
-not_negative _ = None
-
--- the number that a form is, where it isn't negative
-abbrev pub natural : Form → Option ℕ
-natural f = not_negative (number f)
-
-abbrev pub elements_layer : Form-F Form → Option (List Form)
-elements_layer (layer.Items fs) = Some fs
-elements_layer _ = None
-
--- the elements of a list
-abbrev pub form_elements : Form → Option (List Form)
-form_elements f = elements_layer (out-Form f)
+abbrev pub natural_in : Form-F Form → Option ℕ
+natural_in (layer.Number (pos n)) = Some n
+natural_in _ = None
 
 abbrev pub text_layer : Form-F Form → Option (List ℕ)
 text_layer (layer.Symbol s) = Some s
@@ -135,23 +124,33 @@ false_layer _ = false
 abbrev pub is_false : Form → Bool
 is_false f = false_layer (out-Form f)
 
--- the texts of symbols, strings and numbers joined, behind those that are done
-abbrev pub joined : List ℕ → List Form → Option (List ℕ)
-joined done [] = Some done
-joined done (f ∷ fs) = choose (shown f) (λ t. joined (done ++ t) fs) None
+-- the number that an argument is
+abbrev pub number_for : BuiltIn → Form → Answer ℤ
+number_for b f = ok_or (number_in (out-Form f)) (misfit b)
 
--- the text of all arguments of a built-in
-abbrev pub joined_for : BuiltIn → List Form → Answer (List ℕ)
-joined_for b args = or_fault (joined [] args) (misfit b)
+-- the number that an argument is, where it isn't negative
+abbrev pub natural_for : BuiltIn → Form → Answer ℕ
+natural_for b f = ok_or (natural_in (out-Form f)) (misfit b)
 
-abbrev pub sym_of : List Form → Answer Form
-sym_of args = onward (joined_for own.Sym args) (λ t. Ok (Symbol t))
+-- the text of an argument that is a symbol or string
+abbrev pub text_for : BuiltIn → Form → Answer (List ℕ)
+text_for b f = ok_or (text f) (misfit b)
 
-abbrev pub str_of : List Form → Answer Form
-str_of args = onward (joined_for own.Str args) (λ t. Ok (Str t))
+-- the elements of an argument that is a list
+abbrev pub elements_for : BuiltIn → Form → Answer (List Form)
+elements_for b f = ok_or (form_elements f) (misfit b)
 
+-- the texts of symbols, strings and numbers joined
+abbrev pub joined : BuiltIn → List Form → Answer (List ℕ)
+joined b [] = Ok []
+joined b (f ∷ fs) = do
+  t ← ok_or (shown f) (misfit b)
+  ts ← joined b fs
+  Ok (t ++ ts)
+
+-- `(.error a ..)` is the fault 205 with the joined text.
 abbrev pub error_of : List Form → Answer Form
-error_of args = onward (joined_for own.Error args) (λ t. Err (fault 205 t))
+error_of args = joined own.Error args >>= λ t. Err (fault 205 t)
 
 abbrev pub hex_digit : ℕ → ℕ
 hex_digit d = if nat_lt d 10 then 48 + d else 87 + d
@@ -166,25 +165,15 @@ abbrev pub digits_needed : ℕ → ℕ → ℕ
 digits_needed zero n = 1
 digits_needed (suc k) n = if nat_lt n 16 then 1 else 1 + digits_needed k (n / 16)
 
-abbrev pub wide_hex : ℕ → ℕ → Answer Form
-wide_hex n w = if nat_le 1 w && nat_le w 16 then Ok (Str (last_digits w n)) else Err (misfit own.Hex)
-
--- the number that an argument is, where it isn't negative
-abbrev pub natural_for : BuiltIn → Form → Answer ℕ
-natural_for b f = or_fault (natural f) (misfit b)
-
--- the number that an argument is
-abbrev pub number_for : BuiltIn → Form → Answer ℤ
-number_for b f = or_fault (number f) (misfit b)
-
--- the text of an argument that is a symbol or string
-abbrev pub text_for : BuiltIn → Form → Answer (List ℕ)
-text_for b f = or_fault (text f) (misfit b)
-
--- the digits of a number that isn't negative: all of them, or the last w with zeros in front
+-- `(.hex n [w])`: the lower-case digits of n, which isn't negative; with w from 1 to 16 the last w, zeros in front.
 abbrev pub hex_of : List Form → Answer Form
-hex_of (x ∷ []) = onward (natural_for own.Hex x) (λ n. Ok (Str (last_digits (digits_needed 16 n) n)))
-hex_of (x ∷ w ∷ []) = onward (natural_for own.Hex x) (λ n. onward (natural_for own.Hex w) (wide_hex n))
+hex_of (x ∷ []) = do
+  n ← natural_for own.Hex x
+  Ok (Str (last_digits (digits_needed 16 n) n))
+hex_of (x ∷ y ∷ []) = do
+  n ← natural_for own.Hex x
+  w ← natural_for own.Hex y
+  if nat_le 1 w && nat_le w 16 then Ok (Str (last_digits w n)) else Err (misfit own.Hex)
 hex_of _ = Err (miscounted own.Hex)
 
 abbrev pub upper : ℕ → ℕ
@@ -193,18 +182,20 @@ upper c = if nat_le 97 c && nat_le c 122 then c - 32 else c
 abbrev pub lower : ℕ → ℕ
 lower c = if nat_le 65 c && nat_le c 90 then c + 32 else c
 
--- the letters of a symbol or string changed
+-- `(.upcase a)` and `(.downcase a)`: a symbol or string with its letters changed
 abbrev pub letters_of : BuiltIn → (ℕ → ℕ) → List Form → Answer Form
-letters_of b change (f ∷ []) = onward (text_for b f) (λ t. Ok (with_text f (map change t)))
+letters_of b change (f ∷ []) = do
+  t ← text_for b f
+  Ok (with_text f (map change t))
 letters_of b change _ = Err (miscounted b)
 
-abbrev pub part_of : Form → List ℕ → ℕ → ℕ → Answer Form
-part_of f t i j = if nat_le i j && nat_le j (length t) then Ok (with_text f (take (j - i) (drop i t))) else Err (misfit own.Substring)
-
--- the places i to j - 1 of a symbol or string
+-- `(.substring a i j)`: the places i to j - 1 of a symbol or string
 abbrev pub substring_of : List Form → Answer Form
-substring_of (f ∷ i ∷ j ∷ []) =
-    onward (text_for own.Substring f) (λ t. onward (natural_for own.Substring i) (λ m. onward (natural_for own.Substring j) (part_of f t m)))
+substring_of (f ∷ x ∷ y ∷ []) = do
+  t ← text_for own.Substring f
+  i ← natural_for own.Substring x
+  j ← natural_for own.Substring y
+  if nat_le i j && nat_le j (length t) then Ok (with_text f (take (j - i) (drop i t))) else Err (misfit own.Substring)
 substring_of _ = Err (miscounted own.Substring)
 
 -- the number has 64 bits with a sign
@@ -224,17 +215,28 @@ iota_fits n start step = n == 0 || fits_64 (start +ℤ (pos (n - 1) *ℤ step))
 abbrev pub iota_from : ℕ → ℤ → ℤ → Answer Form
 iota_from n start step = if iota_fits n start step then Ok (Items (numbers n start step)) else Err (misfit own.Iota)
 
+-- `(.iota n [start [step]])`: n numbers, from 0 by 1 where no more is said
 abbrev pub iota_of : List Form → Answer Form
-iota_of (n ∷ []) = onward (natural_for own.Iota n) (λ k. iota_from k (pos 0) (pos 1))
-iota_of (n ∷ start ∷ []) = onward (natural_for own.Iota n) (λ k. onward (number_for own.Iota start) (λ s. iota_from k s (pos 1)))
-iota_of (n ∷ start ∷ step ∷ []) =
-    onward (natural_for own.Iota n) (λ k. onward (number_for own.Iota start) (λ s. onward (number_for own.Iota step) (iota_from k s)))
+iota_of (x ∷ []) = do
+  n ← natural_for own.Iota x
+  iota_from n (pos 0) (pos 1)
+iota_of (x ∷ y ∷ []) = do
+  n ← natural_for own.Iota x
+  start ← number_for own.Iota y
+  iota_from n start (pos 1)
+iota_of (x ∷ y ∷ z ∷ []) = do
+  n ← natural_for own.Iota x
+  start ← number_for own.Iota y
+  step ← number_for own.Iota z
+  iota_from n start step
 iota_of _ = Err (miscounted own.Iota)
 
--- the element of a list at a place, counted from 0
+-- `(.ref l i)`: the element of a list at a place, counted from 0
 abbrev pub ref_of : List Form → Answer Form
-ref_of (l ∷ i ∷ []) =
-    onward (or_fault (form_elements l) (misfit own.Ref)) (λ fs. onward (natural_for own.Ref i) (λ n. or_fault (slice_get fs n) (misfit own.Ref)))
+ref_of (l ∷ x ∷ []) = do
+  fs ← elements_for own.Ref l
+  i ← natural_for own.Ref x
+  ok_or (slice_get fs i) (misfit own.Ref)
 ref_of _ = Err (miscounted own.Ref)
 
 abbrev pub length_layer : Form-F Form → Option ℕ
@@ -243,66 +245,59 @@ length_layer (layer.Str s) = Some (length s)
 length_layer (layer.Items fs) = Some (length fs)
 length_layer _ = None
 
--- how many elements a list has, or bytes a symbol or string
+-- `(.length a)`: how many elements a list has, or bytes a symbol or string
 abbrev pub length_of : List Form → Answer Form
-length_of (f ∷ []) = choose (length_layer (out-Form f)) (λ n. Ok (Number (pos n))) (Err (misfit own.Length))
+length_of (f ∷ []) = do
+  n ← ok_or (length_layer (out-Form f)) (misfit own.Length)
+  Ok (Number (pos n))
 length_of _ = Err (miscounted own.Length)
 
 -- the two numbers that the arguments are
 abbrev pub two_numbers : BuiltIn → List Form → Answer (ℤ × ℤ)
-two_numbers b (x ∷ y ∷ []) = onward (number_for b x) (λ m. onward (number_for b y) (λ n. Ok (m, n)))
+two_numbers b (x ∷ y ∷ []) = do
+  m ← number_for b x
+  n ← number_for b y
+  Ok (m, n)
 two_numbers b _ = Err (miscounted b)
 
--- a number of 64 bits
-abbrev pub in_64 : BuiltIn → ℤ → Answer Form
-in_64 b z = if fits_64 z then Ok (Number z) else Err (misfit b)
+-- `(.add a b)`, `(.sub a b)` and `(.mul a b)`: a number of 64 bits
+abbrev pub calculated : BuiltIn → (ℤ → ℤ → ℤ) → List Form → Answer Form
+calculated b operation args = do
+  p ← two_numbers b args
+  if fits_64 (operation p.0 p.1) then Ok (Number (operation p.0 p.1)) else Err (misfit b)
 
-abbrev pub add_of : List Form → Answer Form
-add_of args = onward (two_numbers own.Add args) (λ p. in_64 own.Add (p.0 +ℤ p.1))
+-- `(.lt a b)`, `(.gt a b)`, `(.le a b)` and `(.ge a b)`: whether it holds of two numbers
+abbrev pub compared : BuiltIn → (ℤ → ℤ → Bool) → List Form → Answer Form
+compared b holds args = do
+  p ← two_numbers b args
+  Ok (Flag (holds p.0 p.1))
 
-abbrev pub sub_of : List Form → Answer Form
-sub_of args = onward (two_numbers own.Sub args) (λ p. in_64 own.Sub (p.0 -ℤ p.1))
-
-abbrev pub mul_of : List Form → Answer Form
-mul_of args = onward (two_numbers own.Mul args) (λ p. in_64 own.Mul (p.0 *ℤ p.1))
-
-abbrev pub lt_of : List Form → Answer Form
-lt_of args = onward (two_numbers own.Lt args) (λ p. Ok (Flag (int_lt p.0 p.1)))
-
-abbrev pub gt_of : List Form → Answer Form
-gt_of args = onward (two_numbers own.Gt args) (λ p. Ok (Flag (int_lt p.1 p.0)))
-
-abbrev pub le_of : List Form → Answer Form
-le_of args = onward (two_numbers own.Le args) (λ p. Ok (Flag (not (int_lt p.1 p.0))))
-
-abbrev pub ge_of : List Form → Answer Form
-ge_of args = onward (two_numbers own.Ge args) (λ p. Ok (Flag (not (int_lt p.0 p.1))))
-
+-- `(.eq a b)`: whether two forms are of the same kind with the same content
 abbrev pub eq_of : List Form → Answer Form
 eq_of (x ∷ y ∷ []) = Ok (Flag (same_form x y))
 eq_of _ = Err (miscounted own.Eq)
 
+-- `(.ne a b)`
 abbrev pub ne_of : List Form → Answer Form
 ne_of (x ∷ y ∷ []) = Ok (Flag (not (same_form x y)))
 ne_of _ = Err (miscounted own.Ne)
 
+-- `(.not a)`: whether it is `#f`
 abbrev pub not_of : List Form → Answer Form
 not_of (f ∷ []) = Ok (Flag (is_false f))
 not_of _ = Err (miscounted own.Not)
 
-abbrev pub list_of : List Form → Answer Form
-list_of args = Ok (Items args)
-
--- Among the arguments of a `.splice` it is its list. Elsewhere no argument is of its kind.
+-- `(.unsplice l)` is its list as an argument of `.splice`. Elsewhere no argument is of its kind.
 abbrev pub unsplice_of : Bool → List Form → Answer Form
-unsplice_of true (f ∷ []) = choose (form_elements f) (λ fs. Ok f) (Err (misfit own.Unsplice))
+unsplice_of true (f ∷ []) = elements_for own.Unsplice f >>= λ fs. Ok f
 unsplice_of false (f ∷ []) = Err (misfit own.Unsplice)
 unsplice_of _ _ = Err (miscounted own.Unsplice)
 
--- What a built-in gives whose arguments are all expanded before. That of `.iota` stands above; the others give their list.
+-- What a built-in gives whose arguments are all expanded before, and whether it is an argument of `.splice`. `.iota` stands
+-- above; the others give the list of their arguments.
 abbrev pub ordinary : BuiltIn → Bool → List Form → Answer Form
-ordinary own.Sym spliced args = sym_of args
-ordinary own.Str spliced args = str_of args
+ordinary own.Sym spliced args = joined own.Sym args >>= λ t. Ok (Symbol t)
+ordinary own.Str spliced args = joined own.Str args >>= λ t. Ok (Str t)
 ordinary own.Hex spliced args = hex_of args
 ordinary own.Upcase spliced args = letters_of own.Upcase upper args
 ordinary own.Downcase spliced args = letters_of own.Downcase lower args
@@ -310,15 +305,15 @@ ordinary own.Substring spliced args = substring_of args
 ordinary own.Unsplice spliced args = unsplice_of spliced args
 ordinary own.Ref spliced args = ref_of args
 ordinary own.Length spliced args = length_of args
-ordinary own.Add spliced args = add_of args
-ordinary own.Sub spliced args = sub_of args
-ordinary own.Mul spliced args = mul_of args
+ordinary own.Add spliced args = calculated own.Add (λ m n. m +ℤ n) args
+ordinary own.Sub spliced args = calculated own.Sub (λ m n. m -ℤ n) args
+ordinary own.Mul spliced args = calculated own.Mul (λ m n. m *ℤ n) args
 ordinary own.Eq spliced args = eq_of args
 ordinary own.Ne spliced args = ne_of args
-ordinary own.Lt spliced args = lt_of args
-ordinary own.Gt spliced args = gt_of args
-ordinary own.Le spliced args = le_of args
-ordinary own.Ge spliced args = ge_of args
+ordinary own.Lt spliced args = compared own.Lt (λ m n. int_lt m n) args
+ordinary own.Gt spliced args = compared own.Gt (λ m n. int_lt n m) args
+ordinary own.Le spliced args = compared own.Le (λ m n. not (int_lt n m)) args
+ordinary own.Ge spliced args = compared own.Ge (λ m n. not (int_lt m n)) args
 ordinary own.Not spliced args = not_of args
 ordinary own.Error spliced args = error_of args
-ordinary _ spliced args = list_of args
+ordinary _ spliced args = Ok (Items args)

@@ -1,8 +1,13 @@
+-- To be read in this order. The last two are what private functions say.
 pub mod Outcome
 pub mod Sizes
 pub mod Shapes
 pub mod BuiltIns
 pub mod Replacing
 pub mod Expansion
-pub mod Formals
+pub mod Splitting
+pub mod Definitions
 pub mod Tops
+pub mod Laws
+pub mod Reports
+pub mod Steps

@@ -1,15 +1,14 @@
--- Names replaced in a body.
-use Rattle.std.specs.Prelude.{ℕ, zero, suc, Bool, true, false, not, List, [], ◌∷◌, ◌++◌, map, drop, Option, Some, None, codes, if◌then◌else◌}
-use Rattle.std.specs.List.{find, filter}
-use Rattle.cg_base.specs.declared.form.Form.{Form}
+-- Names replaced in a body by the forms that stand for them (docs/LANGUAGE.md, "Macros").
+use Rattle.std.specs.Prelude.{ℕ, zero, suc, Bool, true, false, not, List, [], ◌∷◌, map, Option, Some, None, codes, if◌then◌else◌}
+use Rattle.std.specs.List.{find, filter, filter_map}
 use Rattle.cg_pmacro.specs.declared.body.Body.{Body, out-Body}
 use Rattle.cg_pmacro.specs.declared.body.Body.TheOpen as body
 use Rattle.cg_pmacro.specs.declared.body.Body.TheOpen.{Body-F}
-use Rattle.cg_pmacro.specs.declared.body.Body.TheVariants.{Quoted, Number, Symbol, Str, Flag, Items}
+use Rattle.cg_pmacro.specs.declared.body.Body.TheVariants.{Quoted, Symbol, Items}
 use Rattle.cg_pmacro.specs.declared.body.Binding.{Binding}
 use Rattle.cg_pmacro.specs.Outcome.{choose}
 use Rattle.cg_pmacro.specs.Sizes.{levels}
-use Rattle.cg_pmacro.specs.Shapes.{same_text, is_named, is_among, head_name, own_symbol, elements}
+use Rattle.cg_pmacro.specs.Shapes.{same_text, is_named, is_among, head_name, own_symbol, first_symbol, elements}
 
 -- each name of a table, and the form that stands for it
 abbrev pub Table : Type 0
@@ -25,21 +24,15 @@ without table names = filter (λ b. not (is_among b.name names)) table
 
 -- the symbols among the elements of a list
 abbrev pub symbols_among : List Body → List (List ℕ)
-symbols_among [] = []
-symbols_among (b ∷ bs) = choose (own_symbol b) (λ s. s ∷ symbols_among bs) (symbols_among bs)
-
-abbrev pub first_symbol : List Body → Option (List ℕ)
-first_symbol [] = None
-first_symbol (b ∷ bs) = own_symbol b
+symbols_among bs = filter_map own_symbol bs
 
 -- the name that an element of the bindings binds: the first element of a list, where it is a symbol
 abbrev pub bound_name : Body → Option (List ℕ)
 bound_name b = choose (elements b) first_symbol None
 
--- the table behind a binding, which hides its name from what comes
-abbrev pub hiding : Table → Option (List ℕ) → Table
-hiding table None = table
-hiding table (Some name) = without table (name ∷ [])
+-- The names that bindings bind are hidden from what they bind.
+abbrev pub hidden : Table → List Body → Table
+hidden table bs = without table (filter_map bound_name bs)
 
 -- how a name is replaced in a form that stands one list further in
 abbrev pub Replacer : Type 0
@@ -54,11 +47,14 @@ kept_first within table (b ∷ bs) = b ∷ map (within table) bs
 abbrev pub binding_replaced : Replacer → Table → Body → Body
 binding_replaced within table b = choose (bound_name b) (λ name. choose (elements b) (λ bs. Items (kept_first within table bs)) b) (within table b)
 
--- the bindings of a `.let` or, in order, of a `.let*`, behind those that are done; and the table for what comes behind
-abbrev pub bindings_replaced : Replacer → Bool → Table → Table → List Body → List Body → List Body × Table
-bindings_replaced within ordered table later done [] = (done, later)
-bindings_replaced within ordered table later done (b ∷ bs) =
-    bindings_replaced within ordered table (hiding later (bound_name b)) (done ++ binding_replaced within (if ordered then later else table) b ∷ []) bs
+-- the bindings of a `.let*`, in each of which the names that those before it bind are hidden
+abbrev pub in_order : Replacer → Table → List Body → List Body
+in_order within table [] = []
+in_order within table (b ∷ bs) = binding_replaced within table b ∷ in_order within (hidden table (b ∷ [])) bs
+
+-- the bindings of a `.let`, which don't see one another, or of a `.let*`
+abbrev pub bindings_replaced : Replacer → Bool → Table → List Body → List Body
+bindings_replaced within ordered table bs = if ordered then in_order within table bs else map (binding_replaced within table) bs
 
 -- the elements of a `.pmacro` form behind the head: its own arguments aren't replaced in its body
 abbrev pub pmacro_replaced : Replacer → Table → List Body → List Body
@@ -66,14 +62,13 @@ pmacro_replaced within table [] = []
 pmacro_replaced within table (formals ∷ bs) =
     choose (elements formals) (λ names. formals ∷ map (within (without table (symbols_among names))) bs) (map (within table) (formals ∷ bs))
 
-abbrev pub let_body : Replacer → List Body × Table → List Body → List Body
-let_body within done bs = Items done.0 ∷ map (within done.1) bs
-
 -- the elements of a `.let` or `.let*` behind the head: the bound names aren't replaced in its body
 abbrev pub let_replaced : Replacer → Bool → Table → List Body → List Body
 let_replaced within ordered table [] = []
 let_replaced within ordered table (bindings ∷ bs) =
-    choose (elements bindings) (λ each. let_body within (bindings_replaced within ordered table table [] each) bs) (map (within table) (bindings ∷ bs))
+    choose (elements bindings)
+    (λ each. Items (bindings_replaced within ordered table each) ∷ map (within (hidden table each)) bs)
+    (map (within table) (bindings ∷ bs))
 
 -- the elements of a list
 abbrev pub elements_replaced : Replacer → Table → Option (List ℕ) → List Body → List Body

@@ -1,5 +1,5 @@
--- What can be seen of a form with quoted leaves.
-use Rattle.std.specs.Prelude.{ℕ, Bool, true, false, not, ◌&&◌, ◌==◌, List, [], ◌∷◌, length, Option, Some, None, codes, if◌then◌else◌}
+-- What can be seen of a form, and of a form with quoted leaves (docs/LANGUAGE.md, "Macros").
+use Rattle.std.specs.Prelude.{ℕ, Bool, false, ◌==◌, List, [], ◌∷◌, is_some, Option, Some, None, codes, if◌then◌else◌}
 use Rattle.std.specs.List.{list_any, find}
 use Rattle.std.specs.Cmp.Lexicographic.{pointwise}
 use Rattle.cg_base.specs.declared.form.Form.{Form, fold-Form, out-Form}
@@ -10,8 +10,13 @@ use Rattle.cg_base.specs.contracts.form.FormPartialEq.TheImpl as equality
 use Rattle.cg_pmacro.specs.declared.body.Body.{Body, fold-Body, out-Body}
 use Rattle.cg_pmacro.specs.declared.body.Body.TheOpen as body
 use Rattle.cg_pmacro.specs.declared.body.Body.TheOpen.{Body-F}
-use Rattle.cg_pmacro.specs.declared.body.Body.TheVariants.{Quoted, Number, Symbol, Str, Flag, Items}
+use Rattle.cg_pmacro.specs.declared.body.Body.TheVariants.{Number, Symbol, Str, Flag, Items}
 use Rattle.cg_pmacro.specs.declared.body.Macro.{Macro}
+
+infixl 10 ◌>>=◌
+abbrev pub ◌>>=◌ : {A B : Type 0} → Option A → (A → Option B) → Option B
+None >>= next = None
+(Some a) >>= next = next a
 
 abbrev pub same_text : List ℕ → List ℕ → Bool
 same_text = pointwise ◌==◌
@@ -51,6 +56,14 @@ symbol_layer _ = None
 abbrev pub form_symbol : Form → Option (List ℕ)
 form_symbol f = symbol_layer (out-Form f)
 
+abbrev pub form_elements_layer : Form-F Form → Option (List Form)
+form_elements_layer (layer.Items fs) = Some fs
+form_elements_layer _ = None
+
+-- the elements of a list
+abbrev pub form_elements : Form → Option (List Form)
+form_elements f = form_elements_layer (out-Form f)
+
 abbrev pub called_layer : Body-F Body → Option (List ℕ)
 called_layer (body.Quoted f) = form_symbol f
 called_layer (body.Symbol s) = Some s
@@ -77,6 +90,11 @@ own_symbol_layer _ = None
 abbrev pub own_symbol : Body → Option (List ℕ)
 own_symbol b = own_symbol_layer (out-Body b)
 
+-- the symbol in the first place
+abbrev pub first_symbol : List Body → Option (List ℕ)
+first_symbol [] = None
+first_symbol (b ∷ bs) = own_symbol b
+
 abbrev pub elements_layer : Body-F Body → Option (List Body)
 elements_layer (body.Items bs) = Some bs
 elements_layer _ = None
@@ -85,34 +103,50 @@ elements_layer _ = None
 abbrev pub elements : Body → Option (List Body)
 elements b = elements_layer (out-Body b)
 
--- the elements of a list that is headed by `.pmacro`
-abbrev pub headed_pmacro : Option (List Body) → Option (List Body)
-headed_pmacro None = None
-headed_pmacro (Some bs) = if is_named (codes ".pmacro") (head_name bs) then Some bs else None
+abbrev pub is_list : Body → Bool
+is_list b = is_some (elements b)
 
+-- the elements of a list that is headed by `.pmacro`
 abbrev pub pmacro_form : Body → Option (List Body)
-pmacro_form b = headed_pmacro (elements b)
+pmacro_form b = do
+  bs ← elements b
+  if is_named (codes ".pmacro") (head_name bs) then Some bs else None
 
 -- the elements of a `.pmacro` form in the place of a list's head
 abbrev pub pmacro_head : List Body → Option (List Body)
 pmacro_head [] = None
 pmacro_head (b ∷ bs) = pmacro_form b
 
-abbrev pub two_of : Option (List Body) → Option (Body × Body)
-two_of (Some (c ∷ e ∷ [])) = Some (c, e)
+abbrev pub two_of : List Body → Option (Body × Body)
+two_of (b ∷ c ∷ []) = Some (b, c)
 two_of _ = None
 
 -- the two elements of a list of two
 abbrev pub pair_of : Body → Option (Body × Body)
-pair_of b = two_of (elements b)
+pair_of b = elements b >>= two_of
 
--- the macro of that name
-abbrev pub macro_named : List Macro → List ℕ → Option Macro
-macro_named macros name = find (λ m. same_text m.name name) macros
+-- the name and the form of a binding `(n e)`
+abbrev pub binding : Body → Option (List ℕ × Body)
+binding b = do
+  p ← pair_of b
+  name ← own_symbol p.0
+  Some (name, p.1)
 
 -- that name stands among the names
 abbrev pub is_among : List ℕ → List (List ℕ) → Bool
 is_among name names = list_any (λ n. same_text n name) names
+
+-- the names of formals, which are distinct symbols
+abbrev pub names_of : List Body → Option (List (List ℕ))
+names_of [] = Some []
+names_of (b ∷ bs) = do
+  name ← own_symbol b
+  names ← names_of bs
+  if is_among name names then None else Some (name ∷ names)
+
+-- the macro of that name
+abbrev pub macro_named : List Macro → List ℕ → Option Macro
+macro_named macros name = find (λ m. same_text m.name name) macros
 
 abbrev pub begins_with_dot : List ℕ → Bool
 begins_with_dot [] = false

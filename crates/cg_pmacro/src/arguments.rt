@@ -1,7 +1,8 @@
 ghost use Rattle.std.specs.Prelude.{◌≡◌, ◌<◌, ◌^◌, IfOk};
 ghost use Rattle.std.specs.Option.{option_copied};
-ghost use Rattle.cg_pmacro.specs.Outcome.{Answers, IsHalt};
+ghost use Rattle.cg_pmacro.specs.Reports.{Answers, IsHalt};
 ghost use Rattle.cg_pmacro.specs.BuiltIns as meant;
+ghost use Rattle.cg_pmacro.specs.Shapes.{form_elements as form_elements_of};
 
 use crate::built_in::BuiltIn;
 use crate::fault::{Halt, faulty};
@@ -67,7 +68,7 @@ pub fn with_text(form: &Form, text: Text) -> Form
 
 /// The elements of a list.
 pub fn form_elements(form: &Form) -> Option<&[Form]>
-    ensures { option_copied result ≡ meant.form_elements form.now }
+    ensures { option_copied result ≡ form_elements_of form.now }
 {
     match form {
         Form::Items(items) => Some(items.as_slice()),
@@ -98,8 +99,9 @@ fn shown(alloc: Global, form: &Form) -> Result<Option<Text>, NoMemory>
 }
 
 /// The texts of symbols, strings and numbers joined.
+#[tactic(auto, using(crate::proofs::Fronts::front_rules))]
 pub fn joined(alloc: Global, of: BuiltIn, args: &[Value]) -> Result<Text, Halt>
-    ensures { Answers (meant.joined_for of args.now) result }
+    ensures { Answers (meant.joined of args.now) result }
 {
     let mut done = Text::new(alloc);
     for arg in args {

@@ -1,6 +1,6 @@
-ghost use Rattle.std.specs.Prelude.{◌≡◌, ◌<◌, ◌^◌, ◌+ℤ◌, true, IfOk};
-ghost use Rattle.cg_pmacro.specs.Outcome.{Answers};
-ghost use Rattle.cg_pmacro.specs.Expansion.{affordable};
+ghost use Rattle.std.specs.Prelude.{◌≡◌, ◌<◌, ◌^◌, ◌+ℤ◌, true, false, IfOk};
+ghost use Rattle.cg_pmacro.specs.Reports.{Answers};
+ghost use Rattle.cg_pmacro.specs.Steps.{affordable};
 ghost use Rattle.cg_pmacro.specs.BuiltIns as meant;
 ghost use Rattle.cg_pmacro.specs.declared.built_in.BuiltIn.TheVariants as own;
 
@@ -287,7 +287,7 @@ fn two_numbers(alloc: Global, of: BuiltIn, args: &[Value]) -> Result<(i64, i64),
 }
 
 fn add(alloc: Global, args: &[Value]) -> Result<Form, Halt>
-    ensures { Answers (meant.add_of args.now) result }
+    ensures { Answers (meant.ordinary own.Add false args.now) result }
 {
     let (m, n) = two_numbers(alloc, BuiltIn::Add, args)?;
     match m.checked_add(n) {
@@ -297,7 +297,7 @@ fn add(alloc: Global, args: &[Value]) -> Result<Form, Halt>
 }
 
 fn sub(alloc: Global, args: &[Value]) -> Result<Form, Halt>
-    ensures { Answers (meant.sub_of args.now) result }
+    ensures { Answers (meant.ordinary own.Sub false args.now) result }
 {
     let (m, n) = two_numbers(alloc, BuiltIn::Sub, args)?;
     match m.checked_sub(n) {
@@ -307,7 +307,7 @@ fn sub(alloc: Global, args: &[Value]) -> Result<Form, Halt>
 }
 
 fn mul(alloc: Global, args: &[Value]) -> Result<Form, Halt>
-    ensures { Answers (meant.mul_of args.now) result }
+    ensures { Answers (meant.ordinary own.Mul false args.now) result }
 {
     let (m, n) = two_numbers(alloc, BuiltIn::Mul, args)?;
     match m.checked_mul(n) {
@@ -317,28 +317,28 @@ fn mul(alloc: Global, args: &[Value]) -> Result<Form, Halt>
 }
 
 fn less(alloc: Global, args: &[Value]) -> Result<Form, Halt>
-    ensures { Answers (meant.lt_of args.now) result }
+    ensures { Answers (meant.ordinary own.Lt false args.now) result }
 {
     let (m, n) = two_numbers(alloc, BuiltIn::Lt, args)?;
     Ok(Form::Flag(m < n))
 }
 
 fn greater(alloc: Global, args: &[Value]) -> Result<Form, Halt>
-    ensures { Answers (meant.gt_of args.now) result }
+    ensures { Answers (meant.ordinary own.Gt false args.now) result }
 {
     let (m, n) = two_numbers(alloc, BuiltIn::Gt, args)?;
     Ok(Form::Flag(n < m))
 }
 
 fn at_most(alloc: Global, args: &[Value]) -> Result<Form, Halt>
-    ensures { Answers (meant.le_of args.now) result }
+    ensures { Answers (meant.ordinary own.Le false args.now) result }
 {
     let (m, n) = two_numbers(alloc, BuiltIn::Le, args)?;
     Ok(Form::Flag(m <= n))
 }
 
 fn at_least(alloc: Global, args: &[Value]) -> Result<Form, Halt>
-    ensures { Answers (meant.ge_of args.now) result }
+    ensures { Answers (meant.ordinary own.Ge false args.now) result }
 {
     let (m, n) = two_numbers(alloc, BuiltIn::Ge, args)?;
     Ok(Form::Flag(m >= n))

@@ -1,13 +1,14 @@
-ghost use Rattle.std.specs.Prelude.{◌≡◌, false, [], ◌∷◌, ◌++◌, drop, slice_get, OnOk, IfOk};
+ghost use Rattle.std.specs.Prelude.{◌≡◌, false, [], ◌∷◌, ◌++◌, drop, slice_get, None, OnOk, IfOk};
 ghost use Rattle.std.specs.Option.{option_copied, option_map};
 ghost use Rattle.std.specs.List.{list_all};
 ghost use Rattle.cg_base.specs.declared.form.Form.TheVariants.{Symbol, Str, Items};
 ghost use Rattle.cg_pmacro.specs.declared.built_in.Manner.TheVariants as way;
-ghost use Rattle.cg_pmacro.specs.Outcome.{Answers, Gives, GivesPart};
-ghost use Rattle.cg_pmacro.specs.Shapes.{macro_named as macro_named_so};
+ghost use Rattle.cg_pmacro.specs.Outcome.{each as each_of};
+ghost use Rattle.cg_pmacro.specs.Reports.{Answers, Gives, GivesPart, AnswersMacro};
+ghost use Rattle.cg_pmacro.specs.Steps as steps;
+ghost use Rattle.cg_pmacro.specs.Shapes as seen;
 ghost use Rattle.cg_pmacro.specs.BuiltIns.{name_of};
 ghost use Rattle.cg_pmacro.specs.Expansion as meant;
-ghost use Rattle.cg_pmacro.specs.Formals.{AnswersMacro};
 
 use crate::arguments::{form_elements, forms_of, is_false, miscounted, misfit};
 use crate::body::{Binding, Body, Macro};
@@ -96,7 +97,7 @@ fn expand_symbol(
     name: &Text,
     left: &mut u64,
 ) -> Result<Value, Halt>
-    ensures { Gives (meant.symbol_expanded macros.now (meant.further macros.now depth) name.now left.old) result left.new }
+    ensures { Gives (meant.of_kind macros.now (steps.further macros.now depth) [] false (meant.symbol_kind macros.now name.now) left.old) result left.new }
 {
     let Some(found) = macro_named(macros, name.as_slice()) else {
         return Ok(symbol(alloc, name)?);
@@ -120,7 +121,7 @@ fn expand_symbol(
 }
 
 #[cycle(expansion)]
-#[tactic(auto, using(crate::proofs::Rules::expansion_rules), unfolding(crate::specs::Expansion::list_expanded))]
+#[tactic(auto, using(crate::proofs::Rules::expansion_rules), unfolding(crate::specs::Expansion::list_kind))]
 #[inline(never)]
 fn expand_list(
     alloc: Global,
@@ -131,7 +132,7 @@ fn expand_list(
     items: &[Body],
     left: &mut u64,
 ) -> Result<Value, Halt>
-    ensures { Gives (meant.list_expanded macros.now (meant.further macros.now depth) inner.now spliced items.now left.old) result left.new }
+    ensures { Gives (meant.of_kind macros.now (steps.further macros.now depth) inner.now spliced (meant.list_kind macros.now items.now) left.old) result left.new }
 {
     let Some(head) = items.first() else {
         return expand_plain(alloc, macros, depth, inner, items, left);
@@ -177,7 +178,7 @@ fn expand_named(
     left: &mut u64,
 ) -> Result<Value, Halt>
     requires { args.now ≡ drop 1 items.now }
-    ensures { Gives (meant.named_list macros.now (meant.further macros.now depth) inner.now spliced name.now items.now left.old) result left.new }
+    ensures { Gives (meant.of_kind macros.now (steps.further macros.now depth) inner.now spliced (meant.named_kind macros.now name.now items.now) left.old) result left.new }
 {
     if let Some((formals, body)) = with_arguments(macros, name) {
         if depth == 0 {
@@ -202,7 +203,7 @@ fn expand_named(
 
 /// The arguments and the body of the macro of that name, where it is one with arguments.
 fn with_arguments<'m>(macros: &'m [Macro], name: &[u8]) -> Option<(&'m [Text], &'m Body)>
-    ensures { option_map (λ p. (p.0.now, p.1.now)) result ≡ meant.with_arguments (macro_named_so macros.now name.now) }
+    ensures { option_map (λ p. (p.0.now, p.1.now)) result ≡ meant.with_arguments (seen.macro_named macros.now name.now) }
 {
     let found = macro_named(macros, name)?;
     match &found.formals {
@@ -223,7 +224,7 @@ fn expand_plain(
     items: &[Body],
     left: &mut u64,
 ) -> Result<Value, Halt>
-    ensures { Gives (meant.entered_plain (meant.further macros.now depth) inner.now items.now left.old) result left.new }
+    ensures { Gives (meant.of_kind macros.now (steps.further macros.now depth) inner.now false (meant.other_list None items.now) left.old) result left.new }
 {
     if depth == 0 {
         return Err(faulty(alloc, 204, inner));
@@ -263,7 +264,7 @@ fn call_named(
 
 /// The call of a built-in, with its cost.
 #[cycle(expansion)]
-#[tactic(auto, using(crate::proofs::Rules::expansion_rules), unfolding(crate::specs::Expansion::own_called))]
+#[tactic(auto, using(crate::proofs::Rules::expansion_rules))]
 #[inline(never)]
 fn call_own(
     alloc: Global,
@@ -292,7 +293,7 @@ fn plain_list(
     items: &[Body],
     left: &mut u64,
 ) -> Result<Value, Halt>
-    ensures { Gives (meant.listed (meant.each (meant.expanded macros.now depth) inner.now [] items.now left.old)) result left.new }
+    ensures { Gives (meant.listed (each_of (meant.expanded macros.now depth inner.now false) items.now) left.old) result left.new }
 {
     let mut forms = List::new(alloc);
     for item in items {
@@ -313,7 +314,7 @@ fn each(
     items: &[Body],
     left: &mut u64,
 ) -> Result<List<Value>, Halt>
-    ensures { Gives (meant.each (meant.expanded macros.now depth) name.now [] items.now left.old) result left.new }
+    ensures { Gives (each_of (meant.expanded macros.now depth name.now false) items.now left.old) result left.new }
 {
     let mut values = List::new(alloc);
     for item in items {
@@ -388,8 +389,9 @@ fn bindings(alloc: Global, formals: &[Text], args: &[Value]) -> Result<List<Bind
 }
 
 /// The names of formals, which are distinct symbols. None where they aren't.
+#[tactic(auto, using(crate::proofs::Names::name_rules))]
 pub fn names_of(alloc: Global, formals: &[Body]) -> Result<Option<List<Text>>, NoMemory>
-    ensures { IfOk result (λ names. names ≡ meant.names_of [] formals.now) }
+    ensures { IfOk result (λ names. names ≡ seen.names_of formals.now) }
 {
     let mut names = List::new(alloc);
     for formal in formals {
@@ -437,7 +439,7 @@ fn call_built_in(
     items: &[Body],
     left: &mut u64,
 ) -> Result<Value, Halt>
-    ensures { Gives (meant.call_built_in macros.now (meant.expanded macros.now depth) of spliced items.now left.old) result left.new }
+    ensures { Gives (steps.call_built_in macros.now (meant.expanded macros.now depth) of spliced items.now left.old) result left.new }
 {
     match of.manner() {
         Manner::Choice => call_choice(alloc, macros, depth, of, items, left),
@@ -463,7 +465,7 @@ fn each_for(
     items: &[Body],
     left: &mut u64,
 ) -> Result<List<Value>, Halt>
-    ensures { Gives (meant.each (meant.expanded macros.now depth) (name_of of) [] items.now left.old) result left.new }
+    ensures { Gives (each_of (meant.expanded macros.now depth (name_of of) false) items.now left.old) result left.new }
 {
     each(alloc, macros, depth, of.name(), items, left)
 }
@@ -479,7 +481,7 @@ fn call_iota(
     items: &[Body],
     left: &mut u64,
 ) -> Result<Value, Halt>
-    ensures { Gives (meant.call_by way.Iota macros.now (meant.expanded macros.now depth) of false items.now left.old) result left.new }
+    ensures { Gives (steps.call_by way.Iota macros.now (meant.expanded macros.now depth) of false items.now left.old) result left.new }
 {
     let args = each_for(alloc, macros, depth, of, items, left)?;
     let form = iota(alloc, args.as_slice(), *left)?;
@@ -498,7 +500,7 @@ fn call_ordinary(
     items: &[Body],
     left: &mut u64,
 ) -> Result<Value, Halt>
-    ensures { Gives (meant.call_by way.Ordinary macros.now (meant.expanded macros.now depth) of spliced items.now left.old) result left.new }
+    ensures { Gives (steps.call_by way.Ordinary macros.now (meant.expanded macros.now depth) of spliced items.now left.old) result left.new }
 {
     let args = each_for(alloc, macros, depth, of, items, left)?;
     let form = ordinary(alloc, of, spliced, args)?;
@@ -527,7 +529,7 @@ fn call_choice(
     items: &[Body],
     left: &mut u64,
 ) -> Result<Value, Halt>
-    ensures { Gives (meant.expand_taken (meant.expanded macros.now depth) of (meant.take (meant.expanded macros.now depth) of items.now left.old)) result left.new }
+    ensures { Gives (meant.chosen (meant.expanded macros.now depth) of (steps.take (meant.expanded macros.now depth) of items.now) left.old) result left.new }
 {
     let taken = match of {
         BuiltIn::If => take_if(alloc, macros, depth, items, left)?,
@@ -754,7 +756,7 @@ fn are_bindings(bindings: &Body) -> bool
 
 /// The name and the form of a binding `(n e)`.
 fn binding(body: &Body) -> Option<(&Text, &Body)>
-    ensures { option_map (λ p. (p.0.now, p.1.now)) result ≡ meant.binding body.now }
+    ensures { option_map (λ p. (p.0.now, p.1.now)) result ≡ seen.binding body.now }
 {
     let (name, form) = pair_of(body)?;
     let name = own_symbol(name)?;
@@ -774,7 +776,7 @@ fn bind(
     items: &[Body],
     left: &mut u64,
 ) -> Result<List<Binding>, Halt>
-    ensures { Gives (meant.bind (meant.expanded macros.now depth) of ordered [] items.now left.old) result left.new }
+    ensures { Gives (meant.bind (meant.expanded macros.now depth) of ordered items.now left.old) result left.new }
 {
     let mut table = List::new(alloc);
     for item in items {
@@ -798,7 +800,7 @@ fn add_binding(
     name: &Text,
     value: Value,
 ) -> Result<(), NoMemory>
-    ensures { OnOk result (table.new ≡ meant.with_binding ordered table.old name.now value) }
+    ensures { OnOk result (table.new ≡ steps.with_binding ordered table.old name.now value) }
 {
     if ordered {
         *table = without_name(alloc, table.as_slice(), name)?;
@@ -843,7 +845,7 @@ fn splice(
     items: &[Body],
     left: &mut u64,
 ) -> Result<Value, Halt>
-    ensures { Gives (meant.listed (meant.splice (meant.expanded macros.now depth) [] items.now left.old)) result left.new }
+    ensures { Gives (meant.spliced_list (meant.expanded macros.now depth) items.now left.old) result left.new }
 {
     let mut forms = List::new(alloc);
     for item in items {

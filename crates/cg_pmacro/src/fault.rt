@@ -1,6 +1,7 @@
 ghost use Rattle.std.specs.Prelude.{◌≡◌};
 ghost use Rattle.cg_pmacro.specs.declared.fault.Halt.TheVariants.{NoMemory as OutOfMemory};
-ghost use Rattle.cg_pmacro.specs.Outcome.{fault, IsHalt};
+ghost use Rattle.cg_pmacro.specs.Outcome.{fault};
+ghost use Rattle.cg_pmacro.specs.Reports.{IsHalt};
 
 use cg_base::{NoMemory, Text};
 use std::alloc::{AllocError, Global};

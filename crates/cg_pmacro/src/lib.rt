@@ -7,6 +7,7 @@ mod built_in;
 mod calls;
 mod expander;
 mod fault;
+mod laws;
 mod replacing;
 mod shapes;
 mod sizes;
@@ -16,4 +17,5 @@ mod texts;
 mod tops;
 mod value;
 
+pub use laws::{call_leaves, quoted_leaf_is_free, unchanged_at_rest};
 pub use tops::{SHORT_FORMS, expand};

@@ -1,7 +1,8 @@
 ghost use Rattle.std.specs.Prelude.{◌≡◌, ◌++◌, [], ◌∷◌, map, Some, OnOk, IfOk, if◌then◌else◌};
 ghost use Rattle.std.specs.Option.{option_copied};
 ghost use Rattle.cg_pmacro.specs.Replacing as meant;
-ghost use Rattle.cg_pmacro.specs.Shapes.{head_name};
+ghost use Rattle.cg_pmacro.specs.Steps.{hiding as hiding_of};
+ghost use Rattle.cg_pmacro.specs.Shapes.{head_name, first_symbol as first_symbol_of};
 
 use crate::body::{Binding, Body};
 use crate::shapes::{called, copy, elements, is_among, is_named, own_symbol, same_text};
@@ -70,7 +71,7 @@ fn symbols_among(alloc: Global, items: &[Body]) -> Result<List<Text>, NoMemory>
 }
 
 fn first_symbol(items: &[Body]) -> Option<&Text>
-    ensures { option_copied result ≡ meant.first_symbol items.now }
+    ensures { option_copied result ≡ first_symbol_of items.now }
 {
     match items {
         [] => None,
@@ -101,7 +102,7 @@ fn copy_of(alloc: Global, table: &[Binding]) -> Result<List<Binding>, NoMemory>
 }
 
 fn hide(alloc: Global, table: &mut List<Binding>, name: Option<&Text>) -> Result<(), NoMemory>
-    ensures { OnOk result (table.new ≡ meant.hiding table.old (option_copied name.entry)) }
+    ensures { OnOk result (table.new ≡ hiding_of table.old (option_copied name.entry)) }
 {
     if let Some(name) = name {
         *table = without_name(alloc, table.as_slice(), name)?;
@@ -227,6 +228,7 @@ fn push_let(
 
 /// The bindings replaced; `later` becomes the table for what comes behind them.
 #[cycle(replacing)]
+#[tactic(auto, using(crate::proofs::Rules::hiding_rules))]
 fn bindings_replaced(
     alloc: Global,
     levels: u64,
@@ -235,7 +237,7 @@ fn bindings_replaced(
     later: &mut List<Binding>,
     bindings: &[Body],
 ) -> Result<List<Body>, NoMemory>
-    ensures { IfOk result (λ new. (new, later.new) ≡ meant.bindings_replaced (meant.replaced_to levels) ordered table.now later.old [] bindings.now) }
+    ensures { IfOk result (λ new. (new ≡ (if ordered then meant.in_order (meant.replaced_to levels) later.old bindings.now else map (meant.binding_replaced (meant.replaced_to levels) table.now) bindings.now)) × (later.new ≡ meant.hidden later.old bindings.now)) }
 {
     let mut done = List::new(alloc);
     for binding in bindings {

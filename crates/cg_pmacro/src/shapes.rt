@@ -1,7 +1,6 @@
 ghost use Rattle.std.specs.Prelude.{◌≡◌, IfOk};
 ghost use Rattle.std.specs.Option.{option_copied, option_map};
 ghost use Rattle.cg_pmacro.specs.Shapes as seen;
-ghost use Rattle.cg_pmacro.specs.Expansion.{is_list as has_elements};
 
 use crate::body::{Body, Macro};
 use cg_base::{Form, List, NoMemory, Text};
@@ -175,7 +174,7 @@ pub fn pair_of(body: &Body) -> Option<(&Body, &Body)>
 
 /// Whether it is a list that isn't quoted.
 pub fn is_list(body: &Body) -> bool
-    ensures { result ≡ has_elements body.now }
+    ensures { result ≡ seen.is_list body.now }
 {
     matches!(body, Body::Items(_))
 }

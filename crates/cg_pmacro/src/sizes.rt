@@ -1,6 +1,6 @@
 ghost use Rattle.std.specs.Prelude.{◌≡◌, ◌-◌, ◌≤◌, ◌↔◌, IsTrue, SomeIff, IfOk};
 ghost use Rattle.cg_pmacro.specs.Sizes.{nodes, lists, levels as how_deep};
-ghost use Rattle.cg_pmacro.specs.Outcome.{Gives};
+ghost use Rattle.cg_pmacro.specs.Reports.{Gives};
 ghost use Rattle.cg_pmacro.specs.Expansion.{charge as cost_of};
 
 use crate::body::Body;

@@ -1,6 +1,10 @@
-ghost use Rattle.std.specs.Prelude.{◌≡◌, ◌++◌, [], map, drop, OnOk};
+ghost use Rattle.std.specs.Prelude.{◌≡◌, ◌++◌, map, drop, OnOk};
 ghost use Rattle.std.specs.Option.{option_copied};
-ghost use Rattle.cg_pmacro.specs.Outcome.{Answers, IsHalt, fault};
+ghost use Rattle.cg_pmacro.specs.Outcome.{each_joined, fault};
+ghost use Rattle.cg_pmacro.specs.Definitions as defining;
+ghost use Rattle.cg_pmacro.specs.Splitting as splitting;
+ghost use Rattle.cg_pmacro.specs.Reports.{Answers, IsHalt};
+ghost use Rattle.cg_pmacro.specs.Steps.{GivesTop, stopped as stopped_so};
 ghost use Rattle.cg_pmacro.specs.Shapes.{plain as plain_of};
 ghost use Rattle.cg_pmacro.specs.Tops as meant;
 
@@ -39,6 +43,7 @@ const DEPTH: u32 = 1_000;
 /// top form that it came from (docs/LANGUAGE.md, "Macros"). Definitions are gone, and a `begin`
 /// is split into its elements. A description is refused with the first of the faults E201 to E207
 /// and E307 in the order of expansion, at the top form where it comes (docs/REFUSALS.md).
+#[tactic(auto, using(crate::proofs::TopRules::top_rules))]
 pub fn expand(alloc: Global, forms: &Forms) -> Result<Forms, Stop>
     ensures { meant.Expands forms.now result }
 {
@@ -55,7 +60,7 @@ pub fn expand(alloc: Global, forms: &Forms) -> Result<Forms, Stop>
 
 /// What came of a top form; a fault stops with its refusal.
 fn stopped(alloc: Global, outcome: Result<List<Form>, Halt>, top: &Top) -> Result<List<Form>, Stop>
-    ensures { result ≡ meant.stopped top.now outcome }
+    ensures { result ≡ stopped_so top.now outcome }
 {
     match outcome {
         Ok(forms) => Ok(forms),
@@ -94,7 +99,7 @@ fn expand_top(
     left: &mut u64,
     top: &Top,
 ) -> Result<List<Form>, Halt>
-    ensures { meant.GivesTop (meant.topped (plain_of top.now.form) (meant.state macros.old left.old)) result macros.new left.new }
+    ensures { GivesTop (meant.topped (plain_of top.now.form) (meant.state macros.old left.old)) result macros.new left.new }
 {
     let body = plain(alloc, &top.form)?;
     let depth = levels(&body)?;
@@ -111,7 +116,7 @@ fn expand_part(
     left: &mut u64,
     body: &Body,
 ) -> Result<List<Form>, Halt>
-    ensures { meant.GivesTop (meant.top_to depth body.now (meant.state macros.old left.old)) result macros.new left.new }
+    ensures { GivesTop (meant.top_to depth body.now (meant.state macros.old left.old)) result macros.new left.new }
 {
     let Some(items) = elements(body) else {
         return Ok(expand_result(alloc, macros, left, body)?);
@@ -144,7 +149,7 @@ fn expand_parts(
     left: &mut u64,
     items: &[Body],
 ) -> Result<List<Form>, Halt>
-    ensures { meant.GivesTop (meant.top_each (meant.top_to depth) [] (drop 1 items.now) (meant.state macros.old left.old)) result macros.new left.new }
+    ensures { GivesTop (each_joined (meant.top_to depth) (drop 1 items.now) (meant.state macros.old left.old)) result macros.new left.new }
 {
     let mut done = List::new(alloc);
     for item in behind_head(items) {
@@ -177,7 +182,7 @@ fn expand_result(
     left: &mut u64,
     body: &Body,
 ) -> Result<List<Form>, Halt>
-    ensures { meant.GivesTop (meant.top_expanded body.now (meant.state macros.now left.old)) result macros.now left.new }
+    ensures { GivesTop (meant.top_expanded body.now (meant.state macros.now left.old)) result macros.now left.new }
 {
     let value = expand_form(alloc, macros.as_slice(), DEPTH, b"", false, body, left)?;
     let depth = form_depth(value.form())?;
@@ -188,7 +193,7 @@ fn expand_result(
 #[cycle(splitting)]
 #[tactic(auto, using(crate::proofs::TopRules::top_rules))]
 fn split(alloc: Global, depth: u64, form: &Form) -> Result<List<Form>, Halt>
-    ensures { Answers (meant.split_to depth form.now) result }
+    ensures { Answers (splitting.split_to depth form.now) result }
 {
     let head = form_head(form);
     if is_named(b"begin", head) {
@@ -211,7 +216,7 @@ fn split(alloc: Global, depth: u64, form: &Form) -> Result<List<Form>, Halt>
 #[cycle(splitting)]
 #[tactic(auto, using(crate::proofs::TopRules::top_rules))]
 fn split_parts(alloc: Global, depth: u64, form: &Form) -> Result<List<Form>, Halt>
-    ensures { Answers (meant.split_each (meant.split_to depth) [] (meant.behind_head form.now)) result }
+    ensures { Answers (splitting.split_each (splitting.split_to depth) (splitting.behind_head form.now)) result }
 {
     let mut done = List::new(alloc);
     for item in form_behind_head(form) {
@@ -222,7 +227,7 @@ fn split_parts(alloc: Global, depth: u64, form: &Form) -> Result<List<Form>, Hal
 }
 
 fn form_behind_head(form: &Form) -> &[Form]
-    ensures { result.now ≡ meant.behind_head form.now }
+    ensures { result.now ≡ splitting.behind_head form.now }
 {
     match form_elements(form) {
         Some(items) => { if items.is_empty() { items } else { &items[1..] } }
@@ -231,7 +236,7 @@ fn form_behind_head(form: &Form) -> &[Form]
 }
 
 fn form_head(form: &Form) -> Option<&Text>
-    ensures { option_copied result ≡ meant.form_head form.now }
+    ensures { option_copied result ≡ splitting.form_head form.now }
 {
     match form_elements(form) {
         Some([]) => None,
@@ -242,7 +247,7 @@ fn form_head(form: &Form) -> Option<&Text>
 
 /// The macro of a definition.
 fn definition(alloc: Global, macros: &[Macro], items: &[Body]) -> Result<Macro, Halt>
-    ensures { Answers (meant.definition macros.now items.now) result }
+    ensures { Answers (defining.definition macros.now items.now) result }
 {
     match items {
         [_, named, body] => Ok(define(alloc, macros, named, body)?),
@@ -259,13 +264,13 @@ fn definition(alloc: Global, macros: &[Macro], items: &[Body]) -> Result<Macro, 
 }
 
 fn is_string(body: &Body) -> bool
-    ensures { result ≡ meant.is_string body.now }
+    ensures { result ≡ defining.is_string body.now }
 {
     matches!(body, Body::Str(_))
 }
 
 fn misdefined(alloc: Global, name: Option<&Text>) -> Halt
-    ensures { IsHalt (fault 202 (meant.name_or_word (option_copied name.entry))) result }
+    ensures { IsHalt (fault 202 (defining.name_or_word (option_copied name.entry))) result }
 {
     match name {
         Some(name) => faulty(alloc, 202, name.as_slice()),
@@ -275,7 +280,7 @@ fn misdefined(alloc: Global, name: Option<&Text>) -> Halt
 
 /// The name in the second place of a definition.
 fn defined_name(named: &Body) -> Option<&Text>
-    ensures { option_copied result ≡ meant.defined_name named.now }
+    ensures { option_copied result ≡ defining.defined_name named.now }
 {
     match elements(named) {
         Some([]) => None,
@@ -285,7 +290,7 @@ fn defined_name(named: &Body) -> Option<&Text>
 }
 
 fn define(alloc: Global, macros: &[Macro], named: &Body, body: &Body) -> Result<Macro, Halt>
-    ensures { Answers (meant.defined_as macros.now named.now body.now) result }
+    ensures { Answers (defining.defined_as macros.now named.now body.now) result }
 {
     let Some(name) = defined_name(named) else {
         return Err(misdefined(alloc, None));
@@ -297,7 +302,7 @@ fn define(alloc: Global, macros: &[Macro], named: &Body, body: &Body) -> Result<
 }
 
 fn macro_of(alloc: Global, name: &Text, named: &Body, body: &Body) -> Result<Macro, Halt>
-    ensures { Answers (meant.macro_of name.now named.now body.now) result }
+    ensures { Answers (defining.macro_of name.now named.now body.now) result }
 {
     match elements(named) {
         Some(items) => match names_of(alloc, behind_head(items))? {

@@ -1,9 +1,10 @@
-use Rattle.std.proofs.Common.{ℕ, List, [], subst}
-use Rattle.cg_pmacro.specs.Outcome.{Gives}
-use Rattle.cg_pmacro.specs.Expansion.{each, expanded}
+use Rattle.std.proofs.Common.{ℕ, List, false, subst}
+use Rattle.cg_pmacro.specs.Outcome.{each}
+use Rattle.cg_pmacro.specs.Reports.{Gives}
+use Rattle.cg_pmacro.specs.Expansion.{expanded}
 use Rattle.cg_pmacro.proofs.expander.+expansion.Goals as goal
 
 pub each_for-returns : goal.each_for-returns
 each_for-returns t c =
-    let P : List ℕ → Type 0 = λ n. Gives (each (expanded c.args.macros.now c.args.depth) n [] c.args.items.now c.args.left.now) c.each.result c.each.new.left in
+    let P : List ℕ → Type 0 = λ n. Gives (each (expanded c.args.macros.now c.args.depth n false) c.args.items.now c.args.left.now) c.each.result c.each.new.left in
     subst P c.name.ensures c.each.ensures

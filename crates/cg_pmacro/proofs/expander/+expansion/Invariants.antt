@@ -1,5 +1,9 @@
-use Rattle.std.proofs.Common.{◌≡◌, ◌+◌, ◌-◌, ◌*◌, [], drop}
-use Rattle.cg_pmacro.specs.Expansion.{expanded, each, first_arm, bind, splice, calls, beginning}
+use Rattle.std.proofs.Common.{◌≡◌, ◌+◌, ◌-◌, ◌*◌, false, drop, filter_map, if◌then◌else◌}
+use Rattle.std.specs.List.{range_with_len}
+use Rattle.cg_pmacro.specs.Outcome.{each, each_joined}
+use Rattle.cg_pmacro.specs.Shapes.{binding}
+use Rattle.cg_pmacro.proofs.Fronts.{in_front}
+use Rattle.cg_pmacro.specs.Expansion.{expanded, first_arm, let_binding, let_in_order, bind, spliced, results, beginning}
 use Rattle.cg_pmacro.proofs.expander.+expansion.Given as goal
 
 abbrev pub decreases-expand : goal.decreases-expand
@@ -89,24 +93,26 @@ decreases-over l = 20 * l.depth + 7
 -- the rest gives what the whole gives
 abbrev pub invariant-plain_list-loop-item : goal.invariant-plain_list-loop-item
 invariant-plain_list-loop-item l =
-    each (expanded l.macros l.depth) l.inner l.forms (drop l.item-index l.items) l.left ≡ each (expanded l.macros l.depth) l.inner [] l.items l.initial.left
+    in_front l.forms (each (expanded l.macros l.depth l.inner false) (drop l.item-index l.items) l.left) ≡ each (expanded l.macros l.depth l.inner false) l.items l.initial.left
 
 abbrev pub invariant-each-loop-item : goal.invariant-each-loop-item
 invariant-each-loop-item l =
-    each (expanded l.macros l.depth) l.name l.values (drop l.item-index l.items) l.left ≡ each (expanded l.macros l.depth) l.name [] l.items l.initial.left
+    in_front l.values (each (expanded l.macros l.depth l.name false) (drop l.item-index l.items) l.left) ≡ each (expanded l.macros l.depth l.name false) l.items l.initial.left
 
 abbrev pub invariant-first_arm-loop-k : goal.invariant-first_arm-loop-k
 invariant-first_arm-loop-k l =
     first_arm (expanded l.macros l.depth) (drop l.k l.arms) l.left ≡ first_arm (expanded l.macros l.depth) l.arms l.initial.left
 
+-- in order what the rest gives with those so far, else those so far in front of what the rest gives
 abbrev pub invariant-bind-loop-item : goal.invariant-bind-loop-item
 invariant-bind-loop-item l =
-    bind (expanded l.macros l.depth) l.of l.ordered l.table (drop l.item-index l.items) l.left ≡ bind (expanded l.macros l.depth) l.of l.ordered [] l.items l.initial.left
+    (if l.ordered then let_in_order (expanded l.macros l.depth) l.of l.table (filter_map binding (drop l.item-index l.items)) l.left
+    else in_front l.table (each (let_binding (expanded l.macros l.depth) l.of) (filter_map binding (drop l.item-index l.items)) l.left)) ≡ bind (expanded l.macros l.depth) l.of l.ordered l.items l.initial.left
 
 abbrev pub invariant-splice-loop-item : goal.invariant-splice-loop-item
 invariant-splice-loop-item l =
-    splice (expanded l.macros l.depth) l.forms (drop l.item-index l.items) l.left ≡ splice (expanded l.macros l.depth) [] l.items l.initial.left
+    in_front l.forms (each_joined (spliced (expanded l.macros l.depth)) (drop l.item-index l.items) l.left) ≡ each_joined (spliced (expanded l.macros l.depth)) l.items l.initial.left
 
 abbrev pub invariant-map-loop-k : goal.invariant-map-loop-k
 invariant-map-loop-k l =
-    calls (expanded l.macros l.depth) l.of l.head l.args l.forms (l.count - l.k) l.k l.left ≡ calls (expanded l.macros l.depth) l.of l.head l.args (beginning l.of) l.count 0 l.initial.left
+    in_front l.forms (results (expanded l.macros l.depth) l.of l.head l.args (range_with_len l.k (l.count - l.k)) l.left) ≡ in_front (beginning l.of) (results (expanded l.macros l.depth) l.of l.head l.args (range_with_len 0 l.count) l.initial.left)

@@ -1,5 +1,5 @@
-use Rattle.std.proofs.Common.{◌≡◌, ◌+◌, ◌*◌, ◌++◌, [], map, take, drop}
-use Rattle.cg_pmacro.specs.Replacing.{replaced_to, bindings_replaced}
+use Rattle.std.proofs.Common.{◌≡◌, ◌+◌, ◌*◌, ◌++◌, map, take, drop, if◌then◌else◌}
+use Rattle.cg_pmacro.specs.Replacing.{replaced_to, binding_replaced, in_order, hidden}
 use Rattle.cg_pmacro.proofs.replacing.+replacing.Given as goal
 
 abbrev pub decreases-replaced_to : goal.decreases-replaced_to
@@ -30,7 +30,9 @@ decreases-elements_replaced l = 10 * l.levels + 7
 abbrev pub invariant-push_replaced-loop-item : goal.invariant-push_replaced-loop-item
 invariant-push_replaced-loop-item l = l.done ≡ l.initial.done ++ map (replaced_to l.levels l.table) (take l.item-index l.items)
 
--- the rest gives what the whole gives
+-- those that are done in front of the rest, and the table behind all
 abbrev pub invariant-bindings_replaced-loop-binding : goal.invariant-bindings_replaced-loop-binding
-invariant-bindings_replaced-loop-binding l =
-    bindings_replaced (replaced_to l.levels) l.ordered l.table l.later l.done (drop l.binding-index l.bindings) ≡ bindings_replaced (replaced_to l.levels) l.ordered l.table l.initial.later [] l.bindings
+invariant-bindings_replaced-loop-binding l = record {
+  bindings : l.done ++ (if l.ordered then in_order (replaced_to l.levels) l.later (drop l.binding-index l.bindings) else map (binding_replaced (replaced_to l.levels) l.table) (drop l.binding-index l.bindings)) ≡ (if l.ordered then in_order (replaced_to l.levels) l.initial.later l.bindings else map (binding_replaced (replaced_to l.levels) l.table) l.bindings);
+  table : hidden l.later (drop l.binding-index l.bindings) ≡ hidden l.initial.later l.bindings;
+}

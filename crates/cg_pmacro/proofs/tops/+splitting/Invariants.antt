@@ -1,5 +1,6 @@
-use Rattle.std.proofs.Common.{◌≡◌, ◌+◌, ◌*◌, [], drop}
-use Rattle.cg_pmacro.specs.Tops.{split_each, split_to}
+use Rattle.std.proofs.Common.{◌≡◌, ◌+◌, ◌*◌, drop}
+use Rattle.cg_pmacro.proofs.Fronts.{answer_in_front}
+use Rattle.cg_pmacro.specs.Splitting.{split_each, split_to}
 use Rattle.cg_pmacro.proofs.tops.+splitting.Given as goal
 
 abbrev pub decreases-split : goal.decreases-split
@@ -11,4 +12,4 @@ decreases-split_parts l = 2 * l.depth + 1
 -- the rest gives what the whole gives
 abbrev pub invariant-split_parts-loop-item : goal.invariant-split_parts-loop-item
 invariant-split_parts-loop-item l =
-    split_each (split_to l.depth) l.done (drop l.item-index l.item-items) ≡ split_each (split_to l.depth) [] l.item-items
+    answer_in_front l.done (split_each (split_to l.depth) (drop l.item-index l.item-items)) ≡ split_each (split_to l.depth) l.item-items

@@ -1,0 +1,5 @@
+use Rattle.cg_pmacro.proofs.ExpandRules.{expanded_quoted}
+use Rattle.cg_pmacro.proofs.laws.quoted_leaf_is_free.Goals as goal
+
+pub returns : goal.returns
+returns c = expanded_quoted

@@ -1,0 +1,109 @@
+-- What the crate's private functions say of their steps. The meaning of expansion doesn't need it.
+use Rattle.std.specs.Prelude.{◌≡◌, ℕ, zero, suc, ◌+◌, nat_lt, Bool, true, false, List, [], ◌∷◌, ◌++◌, drop, Option, Some, None, Result, Ok, Err, codes, if◌then◌else◌}
+use Rattle.cg_base.specs.declared.form.Form.{Form}
+use Rattle.cg_base.specs.declared.form.Form.TheVariants as form
+use Rattle.cg_base.specs.declared.form.Top.{Top}
+use Rattle.cg_base.specs.declared.refusal.Stop.{Stop}
+use Rattle.cg_base.specs.declared.refusal.Stop.TheVariants as stop
+use Rattle.cg_pmacro.specs.declared.body.Body.{Body}
+use Rattle.cg_pmacro.specs.declared.body.Body.TheOpen as body
+use Rattle.cg_pmacro.specs.declared.body.Body.TheOpen.{Body-F}
+use Rattle.cg_pmacro.specs.declared.body.Macro.{Macro}
+use Rattle.cg_pmacro.specs.declared.built_in.BuiltIn.{BuiltIn}
+use Rattle.cg_pmacro.specs.declared.built_in.BuiltIn.TheVariants as own
+use Rattle.cg_pmacro.specs.declared.built_in.Manner.{Manner}
+use Rattle.cg_pmacro.specs.declared.built_in.Manner.TheVariants as way
+use Rattle.cg_pmacro.specs.declared.fault.Fault.{Fault}
+use Rattle.cg_pmacro.specs.declared.fault.Halt.{Halt}
+use Rattle.cg_pmacro.specs.declared.fault.Halt.TheVariants.{Faulty, NoMemory}
+use Rattle.cg_pmacro.specs.Outcome.{Answer, Paid, Run, ◌>>=◌, choose, fault, fails, lift, each, pure}
+use Rattle.cg_pmacro.specs.Reports.{Halts}
+use Rattle.cg_pmacro.specs.Sizes.{nodes}
+use Rattle.cg_pmacro.specs.BuiltIns.{name_of, built_in, iota_of, ordinary}
+use Rattle.cg_pmacro.specs.Shapes.{head_name, pmacro_head, macro_named, begins_with_dot}
+use Rattle.cg_pmacro.specs.Replacing.{Table, without}
+use Rattle.cg_pmacro.specs.Expansion.{Expander, entered, charged, listed, macro_called, call_pmacro, with_arguments, without_arguments, expanded, chosen, take_if, take_cond, take_case, call_let, stray_pmacro, call_over, spliced_list, own_result}
+use Rattle.cg_pmacro.specs.Splitting.{split_to, nothing}
+use Rattle.cg_pmacro.specs.Tops.{State, state, refusal, top_to, no_forms}
+
+-- this is the outcome of a top form, with the macros that are known then and the units that are left
+abbrev pub GivesTop : {A : Type 0} → Answer (A × State) → Result A Halt → List Macro → ℕ → Type 0
+GivesTop out (Ok a) macros left = out ≡ Ok (a, state macros left)
+GivesTop out (Err h) macros left = Halts out h
+
+-- what came to a halt in a top form stops with its refusal
+abbrev pub stop_of : Top → Halt → Stop
+stop_of t NoMemory = stop.NoMemory
+stop_of t (Faulty x) = stop.Refused (refusal x t)
+
+abbrev pub stopped : {A : Type 0} → Top → Result A Halt → Result A Stop
+stopped t (Ok a) = Ok a
+stopped t (Err h) = Err (stop_of t h)
+
+-- how forms one deeper expand, where they may stand there
+abbrev pub further : List Macro → ℕ → Option Expander
+further macros zero = None
+further macros (suc k) = Some (expanded macros k)
+
+-- how top forms within a `begin` stand
+abbrev pub further_top : ℕ → Body → Run State Fault (List Form)
+further_top zero = no_forms
+further_top (suc k) = top_to k
+
+-- how results within a `begin` split
+abbrev pub further_split : ℕ → Form → Answer (List Form)
+further_split zero = nothing
+further_split (suc k) = split_to k
+
+-- an answer whose cost, were it charged, is not more than what is left
+abbrev pub affordable : ℕ → Answer Form → Answer Form
+affordable left (Ok f) = if nat_lt left (1 + nodes f) then Err (fault 203 (codes "4000000")) else Ok f
+affordable left (Err x) = Err x
+
+-- how the code calls a built-in
+abbrev pub manner : BuiltIn → Manner
+manner own.If = way.Choice
+manner own.Cond = way.Choice
+manner own.Case = way.Choice
+manner own.Let = way.Let
+manner own.LetStar = way.LetStar
+manner own.Pmacro = way.Pmacro
+manner own.Map = way.Over
+manner own.ForEach = way.Over
+manner own.Apply = way.Over
+manner own.Splice = way.Splice
+manner own.Iota = way.Iota
+manner _ = way.Ordinary
+
+-- what `.if`, `.cond` and `.case` take
+abbrev pub take : Expander → BuiltIn → List Body → Paid (Option Body)
+take within own.If args = take_if within args
+take within own.Cond args = take_cond within args
+take within _ args = take_case within args
+
+-- the call of a built-in, by its manner; the list of an `.iota` isn't made where it costs too much
+abbrev pub call_by : Manner → List Macro → Expander → BuiltIn → Bool → List Body → Paid Form
+call_by way.Choice macros within b spliced args = chosen within b (take within b args)
+call_by way.Let macros within b spliced args = call_let within b false args
+call_by way.LetStar macros within b spliced args = call_let within b true args
+call_by way.Pmacro macros within b spliced args = lift (stray_pmacro args)
+call_by way.Over macros within b spliced args = call_over macros within b args
+call_by way.Splice macros within b spliced args = spliced_list within args
+call_by way.Iota macros within b spliced args = do
+  fs ← each (within (name_of b) false) args
+  λ left. lift (affordable left (iota_of fs)) left
+call_by way.Ordinary macros within b spliced args = do
+  fs ← each (within (name_of b) false) args
+  lift (ordinary b spliced fs)
+
+abbrev pub call_built_in : List Macro → Expander → BuiltIn → Bool → List Body → Paid Form
+call_built_in macros within b spliced args = call_by (manner b) macros within b spliced args
+
+-- how the code adds a binding of a `.let` or, hiding an earlier one of its name, of a `.let*`
+abbrev pub with_binding : Bool → Table → List ℕ → Form → Table
+with_binding ordered table name value = (if ordered then without table (name ∷ []) else table) ++ record { name = name; value = value } ∷ []
+
+-- what hides a binding's name from what stands behind it
+abbrev pub hiding : Table → Option (List ℕ) → Table
+hiding table None = table
+hiding table (Some name) = without table (name ∷ [])
