@@ -1,3 +1,5 @@
+pub mod Values
+pub mod Same
 pub mod Rules
 pub mod Numbers
 pub mod TopRules

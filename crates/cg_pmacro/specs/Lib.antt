@@ -1,3 +1,6 @@
+pub mod Depths
+pub mod Values
+pub mod Falls
 pub mod Outcome
 pub mod Sizes
 pub mod Shapes
