@@ -25,4 +25,4 @@ elements_fall (Number n) = omega arith
 elements_fall (Symbol s) = omega arith
 elements_fall (Str s) = omega arith
 elements_fall (Flag b) = omega arith
-elements_fall (Items fs) = omega (arith, lists_items fs.value, most_lists fs.value)
+elements_fall (Items d fs) = omega (arith, lists_items fs.value, most_lists fs.value)

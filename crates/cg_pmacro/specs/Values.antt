@@ -10,4 +10,4 @@ form_of (Number n) = form.Number n
 form_of (Symbol s) = form.Symbol s.value
 form_of (Str s) = form.Str s.value
 form_of (Flag b) = form.Flag b
-form_of (Items fs) = form.Items fs.value
+form_of (Items d fs) = form.Items fs.value

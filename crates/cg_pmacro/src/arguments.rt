@@ -75,7 +75,7 @@ pub fn form_elements(value: &Value) -> Option<&[Value]>
     ensures { option_copied result ≡ meant.form_elements value.now }
 {
     match &value.node {
-        Node::Items(items) => Some(items.as_ref().as_slice()),
+        Node::Items(_, items) => Some(items.as_ref().as_slice()),
         _ => None,
     }
 }

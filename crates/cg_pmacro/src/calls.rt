@@ -261,7 +261,7 @@ fn length(alloc: Global, args: &[Value]) -> Result<Value, Halt>
             let count = match &form.node {
                 Node::Symbol(text) => text.as_ref().len(),
                 Node::Str(text) => text.as_ref().len(),
-                Node::Items(items) => items.as_ref().len(),
+                Node::Items(_, items) => items.as_ref().len(),
                 _ => return Err(misfit(alloc, BuiltIn::Length)),
             };
             match i64::try_from(count) {

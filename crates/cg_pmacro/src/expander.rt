@@ -1,7 +1,7 @@
 ghost use Rattle.std.specs.Prelude.{◌≡◌, false, [], ◌∷◌, ◌++◌, drop, slice_get, OnOk, IfOk};
 ghost use Rattle.std.specs.Option.{option_copied, option_map};
 ghost use Rattle.std.specs.List.{list_all};
-ghost use Rattle.cg_base.specs.declared.form.Form.TheVariants.{Symbol, Str, Items};
+ghost use Rattle.cg_base.specs.declared.form.Form.TheVariants.{Symbol, Str};
 ghost use Rattle.cg_pmacro.specs.declared.built_in.Manner.TheVariants as way;
 ghost use Rattle.cg_pmacro.specs.Outcome.{Answers, Gives, GivesPart};
 ghost use Rattle.cg_pmacro.specs.Shapes.{macro_named as macro_named_so};
@@ -68,14 +68,6 @@ fn symbol(alloc: Global, text: &Text) -> Result<Value, NoMemory>
     ensures { IfOk result (λ value. value ≡ Symbol text.now) }
 {
     Value::symbol(alloc, text.clone()?)
-}
-
-/// A list as a value.
-#[inline(never)]
-fn listed(alloc: Global, values: List<Value>) -> Result<Value, NoMemory>
-    ensures { IfOk result (λ value. value ≡ Items values) }
-{
-    Value::list(alloc, values)
 }
 
 #[cycle(expansion)]
@@ -290,7 +282,7 @@ fn plain_list(
     for item in items {
         values.push(expand(alloc, macros, depth, inner, false, item, left)?)?;
     }
-    Ok(listed(alloc, values)?)
+    Ok(Value::list(alloc, values)?)
 }
 
 /// The expansions of several forms from left to right.
@@ -526,7 +518,7 @@ fn call_choice(
     };
     match taken {
         Some(body) => expand(alloc, macros, depth, of.name(), false, body, left),
-        None => Ok(listed(alloc, List::new(alloc))?),
+        None => Ok(Value::list(alloc, List::new(alloc))?),
     }
 }
 
@@ -841,7 +833,7 @@ fn splice(
         let value = expand(alloc, macros, depth, b".splice", whole, item, left)?;
         add_spliced(whole, value, &mut values)?;
     }
-    Ok(listed(alloc, values)?)
+    Ok(Value::list(alloc, values)?)
 }
 
 /// `.map`, `.for-each` and `.apply`.
@@ -1074,7 +1066,7 @@ fn map(
         let call = call_on(alloc, head, row(alloc, args, k)?.as_slice())?;
         values.push(expand(alloc, macros, depth, of.name(), false, &call, left)?)?;
     }
-    Ok(listed(alloc, values)?)
+    Ok(Value::list(alloc, values)?)
 }
 
 /// What stands in front of the results.

@@ -83,7 +83,7 @@ pub fn same_form(a: &Value, b: &Value) -> bool
         (Node::Symbol(s), Node::Symbol(t)) => s.as_ref() == t.as_ref(),
         (Node::Str(s), Node::Str(t)) => s.as_ref() == t.as_ref(),
         (Node::Flag(f), Node::Flag(g)) => f == g,
-        (Node::Items(items), Node::Items(others)) => {
+        (Node::Items(_, items), Node::Items(_, others)) => {
             let others = others.as_ref().as_slice();
             let items = items.as_ref().as_slice();
             if items.len() != others.len() {

@@ -18,7 +18,7 @@ pub fn without_nodes(value: &Value, left: u64) -> Option<u64>
     ensures { SomeIff result (nodes value.now ≤ left) (left - nodes value.now) }
 {
     match &value.node {
-        Node::Items(items) => {
+        Node::Items(_, items) => {
             let mut rest = left.checked_sub(1)?;
             for item in items.as_ref().as_slice() {
                 rest = without_nodes(item, rest)?;
@@ -35,7 +35,7 @@ pub fn is_within(value: &Value, most: u32) -> bool
     ensures { IsTrue result ↔ (lists value.now ≤ most) }
 {
     match &value.node {
-        Node::Items(items) => {
+        Node::Items(_, items) => {
             if most == 0 {
                 return false;
             }
@@ -56,7 +56,7 @@ pub fn form_depth(value: &Value) -> Result<u64, NoMemory>
     ensures { IfOk result (λ depth. depth ≡ lists value.now) }
 {
     match &value.node {
-        Node::Items(items) => {
+        Node::Items(_, items) => {
             let mut depth = 0;
             for item in items.as_ref().as_slice() {
                 depth = form_depth(item)?.max(depth);

@@ -27,9 +27,13 @@ pub enum Node {
     Str(Rc<Text>),
     /// `#t` or `#f`.
     Flag(bool),
-    /// A list.
-    Items(Rc<List<Value>>),
+    /// A list, and how many lists stand one within another in it, itself among them.
+    Items(u32, Rc<List<Value>>),
 }
+
+/// How many lists may stand one within another in a value. Letting go of a value takes some of
+/// the stack for each of them, so that more would be too much for it.
+const DEEPEST: u32 = 30_000;
 
 impl Model for Value {
     ghost use Rattle.cg_base.specs.declared.form.Form.{Form as Shown};
@@ -90,12 +94,16 @@ impl Value {
         }
     }
 
-    /// A list.
+    /// A list. Where it is too deep for the stack, memory counts as run out.
     pub fn list(alloc: Global, values: List<Value>) -> Result<Value, NoMemory>
         ensures { IfOk result (λ value. value ≡ form.Items values) }
     {
+        let inner = deepest(values.as_slice());
+        if inner >= DEEPEST {
+            return Err(NoMemory);
+        }
         Ok(Value {
-            node: Node::Items(Rc::new(alloc, values)?),
+            node: Node::Items(inner + 1, Rc::new(alloc, values)?),
         })
     }
 
@@ -108,7 +116,7 @@ impl Value {
             Node::Symbol(text) => Ok(Form::Symbol(text.as_ref().clone()?)),
             Node::Str(text) => Ok(Form::Str(text.as_ref().clone()?)),
             Node::Flag(flag) => Ok(Form::Flag(*flag)),
-            Node::Items(items) => {
+            Node::Items(_, items) => {
                 let mut forms = List::new(alloc);
                 for item in items.as_ref().as_slice() {
                     forms.push(item.form(alloc)?)?;
@@ -117,6 +125,17 @@ impl Value {
             }
         }
     }
+}
+
+/// How many lists stand one within another in the deepest of some values.
+fn deepest(values: &[Value]) -> u32 {
+    let mut most = 0;
+    for value in values {
+        if let Node::Items(depth, _) = &value.node {
+            most = most.max(*depth);
+        }
+    }
+    most
 }
 
 /// The same form for one more place. Nothing of it is copied.
@@ -129,7 +148,7 @@ impl Clone for Value {
             Node::Symbol(text) => Node::Symbol(text.clone()?),
             Node::Str(text) => Node::Str(text.clone()?),
             Node::Flag(flag) => Node::Flag(*flag),
-            Node::Items(items) => Node::Items(items.clone()?),
+            Node::Items(depth, items) => Node::Items(*depth, items.clone()?),
         };
         Ok(Value { node })
     }

@@ -45,4 +45,4 @@ pub returns-in_default-4 : goal.returns-in_default-4
 returns-in_default-4 t c = not_flag c.in_default.field-0-0 _ c.in_default.not-Flag-1 ∙ same_known c.a.view_is c.b.view_is c.in_default.is-0 refl
 
 pub returns-in_default-5 : goal.returns-in_default-5
-returns-in_default-5 t c = not_list c.in_default.field-0-0 _ c.in_default.not-Items-1 ∙ same_known c.a.view_is c.b.view_is c.in_default.is-0 refl
+returns-in_default-5 t c = not_list c.in_default.field-0-0 c.in_default.field-1-0 _ c.in_default.not-Items-1 ∙ same_known c.a.view_is c.b.view_is c.in_default.is-0 refl
