@@ -1,5 +1,7 @@
 pub mod Fronts
 pub mod Names
+pub mod Values
+pub mod Same
 pub mod Rules
 pub mod Numbers
 pub mod TopRules

@@ -1,4 +1,4 @@
--- To be read in this order. The last two are what private functions say.
+-- To be read in this order. Behind the laws stands what private functions say, and how a value is seen as a form.
 pub mod Outcome
 pub mod Sizes
 pub mod Shapes
@@ -11,3 +11,6 @@ pub mod Tops
 pub mod Laws
 pub mod Reports
 pub mod Steps
+pub mod Depths
+pub mod Values
+pub mod Falls

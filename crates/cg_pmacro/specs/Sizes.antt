@@ -1,19 +1,16 @@
 -- How large forms are.
-use Rattle.std.specs.Prelude.{ℕ, ◌+◌, max, List, [], ◌∷◌}
+use Rattle.std.specs.Prelude.{ℕ, ◌+◌, List, [], ◌∷◌}
 use Rattle.cg_base.specs.declared.form.Form.{Form, fold-Form}
 use Rattle.cg_base.specs.declared.form.Form.TheOpen as layer
 use Rattle.cg_base.specs.declared.form.Form.TheOpen.{Form-F}
 use Rattle.cg_pmacro.specs.declared.body.Body.{Body, fold-Body}
 use Rattle.cg_pmacro.specs.declared.body.Body.TheOpen as body
 use Rattle.cg_pmacro.specs.declared.body.Body.TheOpen.{Body-F}
+pub use Rattle.cg_pmacro.specs.Depths.{greatest_of, lists}
 
 abbrev pub sum_of : List ℕ → ℕ
 sum_of [] = 0
 sum_of (n ∷ ns) = n + sum_of ns
-
-abbrev pub greatest_of : List ℕ → ℕ
-greatest_of [] = 0
-greatest_of (n ∷ ns) = max n (greatest_of ns)
 
 abbrev pub nodes_step : Form-F ℕ → ℕ
 nodes_step (layer.Items ns) = 1 + sum_of ns
@@ -22,14 +19,6 @@ nodes_step _ = 1
 -- A leaf has one node. A list has one more than its elements have.
 abbrev pub nodes : Form → ℕ
 nodes = fold-Form ℕ nodes_step
-
-abbrev pub lists_step : Form-F ℕ → ℕ
-lists_step (layer.Items ns) = 1 + greatest_of ns
-lists_step _ = 0
-
--- how many lists stand one within another
-abbrev pub lists : Form → ℕ
-lists = fold-Form ℕ lists_step
 
 abbrev pub levels_step : Body-F ℕ → ℕ
 levels_step (body.Items ns) = 1 + greatest_of ns

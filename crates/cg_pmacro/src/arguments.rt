@@ -6,8 +6,8 @@ ghost use Rattle.cg_pmacro.specs.Shapes.{form_elements as form_elements_of};
 
 use crate::built_in::BuiltIn;
 use crate::fault::{Halt, faulty};
-use crate::value::Value;
-use cg_base::{Form, List, NoMemory, Text, decimal};
+use crate::value::{Node, Value};
+use cg_base::{NoMemory, Text, decimal};
 use std::alloc::Global;
 
 /// What a wrong count of arguments comes to.
@@ -25,75 +25,82 @@ pub fn misfit(alloc: Global, of: BuiltIn) -> Halt
 }
 
 /// The number that the argument is.
-pub fn number(alloc: Global, of: BuiltIn, form: &Form) -> Result<i64, Halt>
-    ensures { Answers (meant.number_for of form.now) result }
+#[tactic(auto, using(crate::proofs::Values::value_rules))]
+pub fn number(alloc: Global, of: BuiltIn, value: &Value) -> Result<i64, Halt>
+    ensures { Answers (meant.number_for of value.now) result }
 {
-    match form {
-        Form::Number(number) => Ok(*number),
+    match &value.node {
+        Node::Number(number) => Ok(*number),
         _ => Err(misfit(alloc, of)),
     }
 }
 
 /// The number that the argument is, which isn't negative.
-pub fn natural(alloc: Global, of: BuiltIn, form: &Form) -> Result<u64, Halt>
-    ensures value { Answers (meant.natural_for of form.now) result }
+#[tactic(auto, using(crate::proofs::Values::value_rules))]
+pub fn natural(alloc: Global, of: BuiltIn, value: &Value) -> Result<u64, Halt>
+    ensures value { Answers (meant.natural_for of value.now) result }
     ensures bound { IfOk result (λ n. n < 2 ^ 63) }
 {
-    match form {
-        Form::Number(number) if *number >= 0 => Ok(*number as u64),
+    match &value.node {
+        Node::Number(number) if *number >= 0 => Ok(*number as u64),
         _ => Err(misfit(alloc, of)),
     }
 }
 
 /// The text of a symbol or string.
-pub fn text(form: &Form) -> Option<&Text>
-    ensures { option_copied result ≡ meant.text form.now }
+#[tactic(auto, using(crate::proofs::Values::value_rules))]
+pub fn text(value: &Value) -> Option<&Text>
+    ensures { option_copied result ≡ meant.text value.now }
 {
-    match form {
-        Form::Symbol(text) => Some(text),
-        Form::Str(text) => Some(text),
+    match &value.node {
+        Node::Symbol(text) => Some(text.as_ref()),
+        Node::Str(text) => Some(text.as_ref()),
         _ => None,
     }
 }
 
 /// A symbol or string of the same kind with another text.
-pub fn with_text(form: &Form, text: Text) -> Form
-    ensures { result ≡ meant.with_text form.now text }
+#[tactic(auto, using(crate::proofs::Values::value_rules))]
+pub fn with_text(alloc: Global, value: &Value, text: Text) -> Result<Value, NoMemory>
+    ensures { IfOk result (λ new. new ≡ meant.with_text value.now text) }
 {
-    match form {
-        Form::Symbol(_) => Form::Symbol(text),
-        _ => Form::Str(text),
+    match &value.node {
+        Node::Symbol(_) => Value::symbol(alloc, text),
+        _ => Value::string(alloc, text),
     }
 }
 
 /// The elements of a list.
-pub fn form_elements(form: &Form) -> Option<&[Form]>
-    ensures { option_copied result ≡ form_elements_of form.now }
+#[tactic(auto, using(crate::proofs::Values::value_rules))]
+pub fn form_elements(value: &Value) -> Option<&[Value]>
+    ensures { option_copied result ≡ form_elements_of value.now }
 {
-    match form {
-        Form::Items(items) => Some(items.as_slice()),
+    match &value.node {
+        Node::Items(_, items) => Some(items.as_ref().as_slice()),
         _ => None,
     }
 }
 
 /// Whether the form is `#f`.
-pub fn is_false(form: &Form) -> bool
-    ensures { result ≡ meant.is_false form.now }
+#[tactic(auto, using(crate::proofs::Values::value_rules))]
+pub fn is_false(value: &Value) -> bool
+    ensures { result ≡ meant.is_false value.now }
 {
-    match form {
-        Form::Flag(flag) => !*flag,
+    match &value.node {
+        Node::Flag(flag) => !*flag,
         _ => false,
     }
 }
 
 /// The text of a symbol, a string or a number. None for another form.
-fn shown(alloc: Global, form: &Form) -> Result<Option<Text>, NoMemory>
-    ensures { IfOk result (λ text. text ≡ meant.shown form.now) }
+#[tactic(auto, using(crate::proofs::Values::value_rules))]
+fn shown(alloc: Global, value: &Value) -> Result<Option<Text>, NoMemory>
+    ensures { IfOk result (λ text. text ≡ meant.shown value.now) }
 {
-    match form {
-        Form::Number(number) => Ok(Some(decimal(alloc, i128::from(*number))?)),
-        Form::Symbol(text) => Ok(Some(text.clone()?)),
-        Form::Str(text) => Ok(Some(text.clone()?)),
+    match &value.node {
+        Node::Number(number) => Ok(Some(decimal(alloc, i128::from(*number))?)),
+        Node::Symbol(text) => Ok(Some(text.as_ref().clone()?)),
+        Node::Str(text) => Ok(Some(text.as_ref().clone()?)),
         _ => Ok(None),
     }
 }
@@ -105,21 +112,10 @@ pub fn joined(alloc: Global, of: BuiltIn, args: &[Value]) -> Result<Text, Halt>
 {
     let mut done = Text::new(alloc);
     for arg in args {
-        match shown(alloc, arg.form())? {
+        match shown(alloc, arg)? {
             Some(text) => done.append(text.as_slice())?,
             None => return Err(misfit(alloc, of)),
         }
     }
     Ok(done)
-}
-
-/// The values as forms, each copied only where another place holds it too.
-pub fn forms_of(alloc: Global, values: List<Value>) -> Result<List<Form>, NoMemory>
-    ensures { IfOk result (λ forms. forms ≡ values) }
-{
-    let mut forms = List::new(alloc);
-    for value in values.into_vec() {
-        forms.push(value.into_form()?)?;
-    }
-    Ok(forms)
 }

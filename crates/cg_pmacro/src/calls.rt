@@ -5,23 +5,23 @@ ghost use Rattle.cg_pmacro.specs.BuiltIns as meant;
 ghost use Rattle.cg_pmacro.specs.declared.built_in.BuiltIn.TheVariants as own;
 
 use crate::arguments::{
-    form_elements, forms_of, is_false, joined, miscounted, misfit, natural, number, text, with_text,
+    form_elements, is_false, joined, miscounted, misfit, natural, number, text, with_text,
 };
 use crate::built_in::BuiltIn;
 use crate::fault::{Fault, Halt, faulty};
 use crate::shapes::same_form;
 use crate::texts::{digits_needed, in_capitals, in_small_letters, last_digits};
-use crate::value::Value;
-use cg_base::{Form, List, NoMemory, Text};
+use crate::value::{Node, Value};
+use cg_base::{List, NoMemory, Text};
 use std::alloc::Global;
 
 /// What a built-in gives whose arguments are all expanded before.
-pub fn ordinary(alloc: Global, of: BuiltIn, spliced: bool, args: List<Value>) -> Result<Form, Halt>
+pub fn ordinary(alloc: Global, of: BuiltIn, spliced: bool, args: List<Value>) -> Result<Value, Halt>
     ensures { Answers (meant.ordinary of spliced args) result }
 {
     match of {
-        BuiltIn::Sym => Ok(Form::Symbol(joined(alloc, of, args.as_slice())?)),
-        BuiltIn::Str => Ok(Form::Str(joined(alloc, of, args.as_slice())?)),
+        BuiltIn::Sym => Ok(Value::symbol(alloc, joined(alloc, of, args.as_slice())?)?),
+        BuiltIn::Str => Ok(Value::string(alloc, joined(alloc, of, args.as_slice())?)?),
         BuiltIn::Error => error(alloc, args.as_slice()),
         BuiltIn::Hex => hex(alloc, args.as_slice()),
         BuiltIn::Upcase => upcase(alloc, args.as_slice()),
@@ -40,31 +40,31 @@ pub fn ordinary(alloc: Global, of: BuiltIn, spliced: bool, args: List<Value>) ->
         BuiltIn::Le => at_most(alloc, args.as_slice()),
         BuiltIn::Ge => at_least(alloc, args.as_slice()),
         BuiltIn::Not => not(alloc, args.as_slice()),
-        _ => Ok(Form::Items(forms_of(alloc, args)?)),
+        _ => Ok(Value::list(alloc, args)?),
     }
 }
 
-fn error(alloc: Global, args: &[Value]) -> Result<Form, Halt>
+fn error(alloc: Global, args: &[Value]) -> Result<Value, Halt>
     ensures { Answers (meant.error_of args.now) result }
 {
     let text = joined(alloc, BuiltIn::Error, args)?;
     Err(Halt::Faulty(Fault { number: 205, text }))
 }
 
-fn hex(alloc: Global, args: &[Value]) -> Result<Form, Halt>
+fn hex(alloc: Global, args: &[Value]) -> Result<Value, Halt>
     ensures { Answers (meant.hex_of args.now) result }
 {
     match args {
         [x] => {
-            let n = natural(alloc, BuiltIn::Hex, x.form())?;
+            let n = natural(alloc, BuiltIn::Hex, x)?;
             let count = digits_needed(16, n);
-            Ok(Form::Str(last_digits(alloc, count, n)?))
+            Ok(Value::string(alloc, last_digits(alloc, count, n)?)?)
         }
         [x, w] => {
-            let n = natural(alloc, BuiltIn::Hex, x.form())?;
-            let count = natural(alloc, BuiltIn::Hex, w.form())?;
+            let n = natural(alloc, BuiltIn::Hex, x)?;
+            let count = natural(alloc, BuiltIn::Hex, w)?;
             if 1 <= count && count <= 16 {
-                Ok(Form::Str(last_digits(alloc, count as u8, n)?))
+                Ok(Value::string(alloc, last_digits(alloc, count as u8, n)?)?)
             } else {
                 Err(misfit(alloc, BuiltIn::Hex))
             }
@@ -73,49 +73,49 @@ fn hex(alloc: Global, args: &[Value]) -> Result<Form, Halt>
     }
 }
 
-fn upcase(alloc: Global, args: &[Value]) -> Result<Form, Halt>
+fn upcase(alloc: Global, args: &[Value]) -> Result<Value, Halt>
     ensures { Answers (meant.letters_of own.Upcase meant.upper args.now) result }
 {
     match args {
         [form] => {
-            let Some(old) = text(form.form()) else {
+            let Some(old) = text(form) else {
                 return Err(misfit(alloc, BuiltIn::Upcase));
             };
             let new = in_capitals(alloc, old.as_slice())?;
-            Ok(with_text(form.form(), new))
+            Ok(with_text(alloc, form, new)?)
         }
         _ => Err(miscounted(alloc, BuiltIn::Upcase)),
     }
 }
 
-fn downcase(alloc: Global, args: &[Value]) -> Result<Form, Halt>
+fn downcase(alloc: Global, args: &[Value]) -> Result<Value, Halt>
     ensures { Answers (meant.letters_of own.Downcase meant.lower args.now) result }
 {
     match args {
         [form] => {
-            let Some(old) = text(form.form()) else {
+            let Some(old) = text(form) else {
                 return Err(misfit(alloc, BuiltIn::Downcase));
             };
             let new = in_small_letters(alloc, old.as_slice())?;
-            Ok(with_text(form.form(), new))
+            Ok(with_text(alloc, form, new)?)
         }
         _ => Err(miscounted(alloc, BuiltIn::Downcase)),
     }
 }
 
-fn substring(alloc: Global, args: &[Value]) -> Result<Form, Halt>
+fn substring(alloc: Global, args: &[Value]) -> Result<Value, Halt>
     ensures { Answers (meant.substring_of args.now) result }
 {
     match args {
         [form, i, j] => {
-            let Some(whole) = text(form.form()) else {
+            let Some(whole) = text(form) else {
                 return Err(misfit(alloc, BuiltIn::Substring));
             };
-            let from = natural(alloc, BuiltIn::Substring, i.form())?;
-            let to = natural(alloc, BuiltIn::Substring, j.form())?;
+            let from = natural(alloc, BuiltIn::Substring, i)?;
+            let to = natural(alloc, BuiltIn::Substring, j)?;
             if from <= to && to <= whole.len() as u64 {
                 let part = Text::of(alloc, &whole.as_slice()[from as usize..to as usize])?;
-                Ok(with_text(form.form(), part))
+                Ok(with_text(alloc, form, part)?)
             } else {
                 Err(misfit(alloc, BuiltIn::Substring))
             }
@@ -124,13 +124,13 @@ fn substring(alloc: Global, args: &[Value]) -> Result<Form, Halt>
     }
 }
 
-fn unsplice(alloc: Global, spliced: bool, args: &[Value]) -> Result<Form, Halt>
+fn unsplice(alloc: Global, spliced: bool, args: &[Value]) -> Result<Value, Halt>
     ensures { Answers (meant.unsplice_of spliced args.now) result }
 {
     match args {
         [list] => {
-            if spliced && form_elements(list.form()).is_some() {
-                Ok(list.form().clone()?)
+            if spliced && form_elements(list).is_some() {
+                Ok(list.clone()?)
             } else {
                 Err(misfit(alloc, BuiltIn::Unsplice))
             }
@@ -141,23 +141,23 @@ fn unsplice(alloc: Global, spliced: bool, args: &[Value]) -> Result<Form, Halt>
 
 /// `.iota`. Its cost is known before its list is made, and where that is more than what is left,
 /// the list isn't made.
-pub fn iota(alloc: Global, args: &[Value], left: u64) -> Result<Form, Halt>
+pub fn iota(alloc: Global, args: &[Value], left: u64) -> Result<Value, Halt>
     ensures { Answers (affordable left (meant.iota_of args.now)) result }
 {
     match args {
         [n] => {
-            let count = natural(alloc, BuiltIn::Iota, n.form())?;
+            let count = natural(alloc, BuiltIn::Iota, n)?;
             numbers(alloc, count, 0, 1, left)
         }
         [n, start] => {
-            let count = natural(alloc, BuiltIn::Iota, n.form())?;
-            let start = number(alloc, BuiltIn::Iota, start.form())?;
+            let count = natural(alloc, BuiltIn::Iota, n)?;
+            let start = number(alloc, BuiltIn::Iota, start)?;
             numbers(alloc, count, start, 1, left)
         }
         [n, start, step] => {
-            let count = natural(alloc, BuiltIn::Iota, n.form())?;
-            let start = number(alloc, BuiltIn::Iota, start.form())?;
-            let step = number(alloc, BuiltIn::Iota, step.form())?;
+            let count = natural(alloc, BuiltIn::Iota, n)?;
+            let start = number(alloc, BuiltIn::Iota, start)?;
+            let step = number(alloc, BuiltIn::Iota, step)?;
             numbers(alloc, count, start, step, left)
         }
         _ => Err(miscounted(alloc, BuiltIn::Iota)),
@@ -166,7 +166,7 @@ pub fn iota(alloc: Global, args: &[Value], left: u64) -> Result<Form, Halt>
 
 /// So many numbers from `start` by `step`, where their list doesn't cost more than what is left.
 #[tactic(auto, using(crate::proofs::Numbers::number_rules))]
-fn numbers(alloc: Global, count: u64, start: i64, step: i64, left: u64) -> Result<Form, Halt>
+fn numbers(alloc: Global, count: u64, start: i64, step: i64, left: u64) -> Result<Value, Halt>
     requires { count < 2 ^ 63 }
     ensures { Answers (affordable left (meant.iota_from count start step)) result }
 {
@@ -179,19 +179,19 @@ fn numbers(alloc: Global, count: u64, start: i64, step: i64, left: u64) -> Resul
     if left - 2 < count {
         return Err(faulty(alloc, 203, b"4000000"));
     }
-    Ok(Form::Items(listed(alloc, count, start, step)?))
+    Ok(Value::list(alloc, listed(alloc, count, start, step)?)?)
 }
 
 /// So many numbers from `start` by `step`.
 #[tactic(auto, using(crate::proofs::Numbers::number_rules))]
-fn listed(alloc: Global, count: u64, start: i64, step: i64) -> Result<List<Form>, NoMemory>
+fn listed(alloc: Global, count: u64, start: i64, step: i64) -> Result<List<Value>, NoMemory>
     requires { meant.iota_fits count start step ≡ true }
     ensures { IfOk result (λ forms. forms ≡ meant.numbers count start step) }
 {
     let mut forms = List::new(alloc);
     let mut value = start;
     for _k in 0..count {
-        forms.push(Form::Number(value))?;
+        forms.push(Value::number(value))?;
         value = next_number(value, step);
     }
     Ok(forms)
@@ -234,15 +234,15 @@ fn is_short(number: i128) -> bool
     }
 }
 
-fn element(alloc: Global, args: &[Value]) -> Result<Form, Halt>
+fn element(alloc: Global, args: &[Value]) -> Result<Value, Halt>
     ensures { Answers (meant.ref_of args.now) result }
 {
     match args {
         [list, i] => {
-            let Some(items) = form_elements(list.form()) else {
+            let Some(items) = form_elements(list) else {
                 return Err(misfit(alloc, BuiltIn::Ref));
             };
-            let place = natural(alloc, BuiltIn::Ref, i.form())?;
+            let place = natural(alloc, BuiltIn::Ref, i)?;
             match items.get(place as usize) {
                 Some(item) => Ok(item.clone()?),
                 None => Err(misfit(alloc, BuiltIn::Ref)),
@@ -252,19 +252,20 @@ fn element(alloc: Global, args: &[Value]) -> Result<Form, Halt>
     }
 }
 
-fn length(alloc: Global, args: &[Value]) -> Result<Form, Halt>
+#[tactic(auto, using(crate::proofs::Values::value_rules))]
+fn length(alloc: Global, args: &[Value]) -> Result<Value, Halt>
     ensures { Answers (meant.length_of args.now) result }
 {
     match args {
         [form] => {
-            let count = match form.form() {
-                Form::Symbol(text) => text.len(),
-                Form::Str(text) => text.len(),
-                Form::Items(items) => items.len(),
+            let count = match &form.node {
+                Node::Symbol(text) => text.as_ref().len(),
+                Node::Str(text) => text.as_ref().len(),
+                Node::Items(_, items) => items.as_ref().len(),
                 _ => return Err(misfit(alloc, BuiltIn::Length)),
             };
             match i64::try_from(count) {
-                Ok(count) => Ok(Form::Number(count)),
+                Ok(count) => Ok(Value::number(count)),
                 Err(_) => Err(Halt::NoMemory),
             }
         }
@@ -278,95 +279,95 @@ fn two_numbers(alloc: Global, of: BuiltIn, args: &[Value]) -> Result<(i64, i64),
 {
     match args {
         [x, y] => {
-            let m = number(alloc, of, x.form())?;
-            let n = number(alloc, of, y.form())?;
+            let m = number(alloc, of, x)?;
+            let n = number(alloc, of, y)?;
             Ok((m, n))
         }
         _ => Err(miscounted(alloc, of)),
     }
 }
 
-fn add(alloc: Global, args: &[Value]) -> Result<Form, Halt>
+fn add(alloc: Global, args: &[Value]) -> Result<Value, Halt>
     ensures { Answers (meant.ordinary own.Add false args.now) result }
 {
     let (m, n) = two_numbers(alloc, BuiltIn::Add, args)?;
     match m.checked_add(n) {
-        Some(sum) => Ok(Form::Number(sum)),
+        Some(sum) => Ok(Value::number(sum)),
         None => Err(misfit(alloc, BuiltIn::Add)),
     }
 }
 
-fn sub(alloc: Global, args: &[Value]) -> Result<Form, Halt>
+fn sub(alloc: Global, args: &[Value]) -> Result<Value, Halt>
     ensures { Answers (meant.ordinary own.Sub false args.now) result }
 {
     let (m, n) = two_numbers(alloc, BuiltIn::Sub, args)?;
     match m.checked_sub(n) {
-        Some(difference) => Ok(Form::Number(difference)),
+        Some(difference) => Ok(Value::number(difference)),
         None => Err(misfit(alloc, BuiltIn::Sub)),
     }
 }
 
-fn mul(alloc: Global, args: &[Value]) -> Result<Form, Halt>
+fn mul(alloc: Global, args: &[Value]) -> Result<Value, Halt>
     ensures { Answers (meant.ordinary own.Mul false args.now) result }
 {
     let (m, n) = two_numbers(alloc, BuiltIn::Mul, args)?;
     match m.checked_mul(n) {
-        Some(product) => Ok(Form::Number(product)),
+        Some(product) => Ok(Value::number(product)),
         None => Err(misfit(alloc, BuiltIn::Mul)),
     }
 }
 
-fn less(alloc: Global, args: &[Value]) -> Result<Form, Halt>
+fn less(alloc: Global, args: &[Value]) -> Result<Value, Halt>
     ensures { Answers (meant.ordinary own.Lt false args.now) result }
 {
     let (m, n) = two_numbers(alloc, BuiltIn::Lt, args)?;
-    Ok(Form::Flag(m < n))
+    Ok(Value::flag(m < n))
 }
 
-fn greater(alloc: Global, args: &[Value]) -> Result<Form, Halt>
+fn greater(alloc: Global, args: &[Value]) -> Result<Value, Halt>
     ensures { Answers (meant.ordinary own.Gt false args.now) result }
 {
     let (m, n) = two_numbers(alloc, BuiltIn::Gt, args)?;
-    Ok(Form::Flag(n < m))
+    Ok(Value::flag(n < m))
 }
 
-fn at_most(alloc: Global, args: &[Value]) -> Result<Form, Halt>
+fn at_most(alloc: Global, args: &[Value]) -> Result<Value, Halt>
     ensures { Answers (meant.ordinary own.Le false args.now) result }
 {
     let (m, n) = two_numbers(alloc, BuiltIn::Le, args)?;
-    Ok(Form::Flag(m <= n))
+    Ok(Value::flag(m <= n))
 }
 
-fn at_least(alloc: Global, args: &[Value]) -> Result<Form, Halt>
+fn at_least(alloc: Global, args: &[Value]) -> Result<Value, Halt>
     ensures { Answers (meant.ordinary own.Ge false args.now) result }
 {
     let (m, n) = two_numbers(alloc, BuiltIn::Ge, args)?;
-    Ok(Form::Flag(m >= n))
+    Ok(Value::flag(m >= n))
 }
 
-fn equal(alloc: Global, args: &[Value]) -> Result<Form, Halt>
+fn equal(alloc: Global, args: &[Value]) -> Result<Value, Halt>
     ensures { Answers (meant.eq_of args.now) result }
 {
     match args {
-        [x, y] => Ok(Form::Flag(same_form(x.form(), y.form()))),
+        [x, y] => Ok(Value::flag(same_form(x, y))),
         _ => Err(miscounted(alloc, BuiltIn::Eq)),
     }
 }
 
-fn different(alloc: Global, args: &[Value]) -> Result<Form, Halt>
+fn different(alloc: Global, args: &[Value]) -> Result<Value, Halt>
     ensures { Answers (meant.ne_of args.now) result }
 {
     match args {
-        [x, y] => Ok(Form::Flag(!same_form(x.form(), y.form()))),
+        [x, y] => Ok(Value::flag(!same_form(x, y))),
         _ => Err(miscounted(alloc, BuiltIn::Ne)),
     }
 }
 
-fn not(alloc: Global, args: &[Value]) -> Result<Form, Halt>
+fn not(alloc: Global, args: &[Value]) -> Result<Value, Halt>
     ensures { Answers (meant.not_of args.now) result }
 {
     match args {
-        [form] => Ok(Form::Flag(is_false(form.form()))),
+        [form] => Ok(Value::flag(is_false(form))),
         _ => Err(miscounted(alloc, BuiltIn::Not)),
     }
 }

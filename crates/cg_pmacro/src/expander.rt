@@ -1,7 +1,7 @@
 ghost use Rattle.std.specs.Prelude.{◌≡◌, false, [], ◌∷◌, ◌++◌, drop, slice_get, None, OnOk, IfOk};
 ghost use Rattle.std.specs.Option.{option_copied, option_map};
 ghost use Rattle.std.specs.List.{list_all};
-ghost use Rattle.cg_base.specs.declared.form.Form.TheVariants.{Symbol, Str, Items};
+ghost use Rattle.cg_base.specs.declared.form.Form.TheVariants.{Symbol, Str};
 ghost use Rattle.cg_pmacro.specs.declared.built_in.Manner.TheVariants as way;
 ghost use Rattle.cg_pmacro.specs.Outcome.{each as each_of};
 ghost use Rattle.cg_pmacro.specs.Reports.{Answers, Gives, GivesPart, AnswersMacro};
@@ -10,7 +10,7 @@ ghost use Rattle.cg_pmacro.specs.Shapes as seen;
 ghost use Rattle.cg_pmacro.specs.BuiltIns.{name_of};
 ghost use Rattle.cg_pmacro.specs.Expansion as meant;
 
-use crate::arguments::{form_elements, forms_of, is_false, miscounted, misfit};
+use crate::arguments::{form_elements, is_false, miscounted, misfit};
 use crate::body::{Binding, Body, Macro};
 use crate::built_in::{BuiltIn, Manner, built_in};
 use crate::calls::{iota, ordinary};
@@ -22,7 +22,7 @@ use crate::shapes::{
 };
 use crate::sizes::charge;
 use crate::value::Value;
-use cg_base::{Form, List, NoMemory, Text};
+use cg_base::{List, NoMemory, Text};
 use std::alloc::Global;
 
 /// What a form expands to, where lists and symbols that expand may still stand `depth` deep one
@@ -44,10 +44,10 @@ pub fn expand(
 {
     match body {
         Body::Quoted(value) => Ok(value.clone()?),
-        Body::Number(number) => Ok(made(alloc, Form::Number(*number))?),
+        Body::Number(number) => Ok(Value::number(*number)),
         Body::Symbol(name) => Ok(expand_symbol(alloc, macros, depth, name, left)?),
         Body::Str(text) => Ok(string(alloc, text)?),
-        Body::Flag(flag) => Ok(made(alloc, Form::Flag(*flag))?),
+        Body::Flag(flag) => Ok(Value::flag(*flag)),
         Body::Items(items) => {
             let items = items.as_slice();
             Ok(expand_list(alloc, macros, depth, inner, spliced, items, left)?)
@@ -55,20 +55,12 @@ pub fn expand(
     }
 }
 
-/// The form as a value.
-#[inline(never)]
-fn made(alloc: Global, form: Form) -> Result<Value, NoMemory>
-    ensures { IfOk result (λ value. value ≡ form) }
-{
-    Value::of(alloc, form)
-}
-
 /// A string as a value.
 #[inline(never)]
 fn string(alloc: Global, text: &Text) -> Result<Value, NoMemory>
     ensures { IfOk result (λ value. value ≡ Str text.now) }
 {
-    made(alloc, Form::Str(text.clone()?))
+    Value::string(alloc, text.clone()?)
 }
 
 /// A symbol as a value.
@@ -76,15 +68,7 @@ fn string(alloc: Global, text: &Text) -> Result<Value, NoMemory>
 fn symbol(alloc: Global, text: &Text) -> Result<Value, NoMemory>
     ensures { IfOk result (λ value. value ≡ Symbol text.now) }
 {
-    made(alloc, Form::Symbol(text.clone()?))
-}
-
-/// A list as a value.
-#[inline(never)]
-fn listed(alloc: Global, forms: List<Form>) -> Result<Value, NoMemory>
-    ensures { IfOk result (λ value. value ≡ Items forms) }
-{
-    made(alloc, Form::Items(forms))
+    Value::symbol(alloc, text.clone()?)
 }
 
 #[cycle(expansion)]
@@ -295,11 +279,11 @@ fn plain_list(
 ) -> Result<Value, Halt>
     ensures { Gives (meant.listed (each_of (meant.expanded macros.now depth inner.now false) items.now) left.old) result left.new }
 {
-    let mut forms = List::new(alloc);
+    let mut values = List::new(alloc);
     for item in items {
-        forms.push(expand(alloc, macros, depth, inner, false, item, left)?.into_form()?)?;
+        values.push(expand(alloc, macros, depth, inner, false, item, left)?)?;
     }
-    Ok(listed(alloc, forms)?)
+    Ok(Value::list(alloc, values)?)
 }
 
 /// The expansions of several forms from left to right.
@@ -484,8 +468,7 @@ fn call_iota(
     ensures { Gives (steps.call_by way.Iota macros.now (meant.expanded macros.now depth) of false items.now left.old) result left.new }
 {
     let args = each_for(alloc, macros, depth, of, items, left)?;
-    let form = iota(alloc, args.as_slice(), *left)?;
-    Ok(made(alloc, form)?)
+    Ok(iota(alloc, args.as_slice(), *left)?)
 }
 
 #[cycle(expansion)]
@@ -503,8 +486,7 @@ fn call_ordinary(
     ensures { Gives (steps.call_by way.Ordinary macros.now (meant.expanded macros.now depth) of spliced items.now left.old) result left.new }
 {
     let args = each_for(alloc, macros, depth, of, items, left)?;
-    let form = ordinary(alloc, of, spliced, args)?;
-    Ok(made(alloc, form)?)
+    Ok(ordinary(alloc, of, spliced, args)?)
 }
 
 /// A `.pmacro` form that is neither a head nor mapped or applied.
@@ -538,7 +520,7 @@ fn call_choice(
     };
     match taken {
         Some(body) => expand(alloc, macros, depth, of.name(), false, body, left),
-        None => Ok(listed(alloc, List::new(alloc))?),
+        None => Ok(Value::list(alloc, List::new(alloc))?),
     }
 }
 
@@ -558,7 +540,7 @@ fn take_if<'b>(
         return Err(miscounted(alloc, BuiltIn::If));
     };
     let condition = expand(alloc, macros, depth, b".if", false, condition, left)?;
-    let fails = is_false(condition.form());
+    let fails = is_false(&condition);
     match items {
         [_, then] => Ok(if fails { None } else { Some(then) }),
         [_, then, otherwise] => Ok(Some(if fails { otherwise } else { then })),
@@ -618,7 +600,7 @@ fn first_arm<'b>(
             return Ok(Some(result));
         }
         let holds = expand(alloc, macros, depth, b".cond", false, condition, left)?;
-        if !is_false(holds.form()) {
+        if !is_false(&holds) {
             return Ok(Some(result));
         }
     }
@@ -651,7 +633,7 @@ fn take_case<'b>(
     if !are_arms(&items[1..]) {
         return Err(misfit(alloc, BuiltIn::Case));
     }
-    Ok(arm_of(alloc, value.form(), &items[1..])?)
+    Ok(arm_of(alloc, &value, &items[1..])?)
 }
 
 fn are_arms(arms: &[Body]) -> bool
@@ -671,7 +653,7 @@ fn are_arms(arms: &[Body]) -> bool
 }
 
 /// The first arm with the value among its values.
-fn arm_of<'b>(alloc: Global, value: &Form, arms: &'b [Body]) -> Result<Option<&'b Body>, NoMemory>
+fn arm_of<'b>(alloc: Global, value: &Value, arms: &'b [Body]) -> Result<Option<&'b Body>, NoMemory>
     ensures { IfOk result (λ arm. option_copied arm ≡ meant.arm_of value.now arms.now) }
 {
     for arm in arms {
@@ -687,7 +669,7 @@ fn arm_of<'b>(alloc: Global, value: &Form, arms: &'b [Body]) -> Result<Option<&'
     Ok(None)
 }
 
-fn holds(alloc: Global, value: &Form, values: &Body) -> Result<bool, NoMemory>
+fn holds(alloc: Global, value: &Value, values: &Body) -> Result<bool, NoMemory>
     ensures { IfOk result (λ is. is ≡ meant.holds value.now values.now) }
 {
     let Some(values) = elements(values) else {
@@ -821,13 +803,13 @@ fn is_unsplice(body: &Body) -> bool
 }
 
 /// Puts what an argument of `.splice` adds behind what is done.
-fn add_spliced(whole: bool, value: Value, done: &mut List<Form>) -> Result<(), NoMemory>
+fn add_spliced(whole: bool, value: Value, done: &mut List<Value>) -> Result<(), NoMemory>
     ensures { OnOk result (done.new ≡ done.old ++ meant.added whole value) }
 {
     if !whole {
-        return done.push(value.into_form()?);
+        return done.push(value);
     }
-    if let Some(items) = form_elements(value.form()) {
+    if let Some(items) = form_elements(&value) {
         for item in items {
             done.push(item.clone()?)?;
         }
@@ -847,13 +829,13 @@ fn splice(
 ) -> Result<Value, Halt>
     ensures { Gives (meant.spliced_list (meant.expanded macros.now depth) items.now left.old) result left.new }
 {
-    let mut forms = List::new(alloc);
+    let mut values = List::new(alloc);
     for item in items {
         let whole = is_unsplice(item);
         let value = expand(alloc, macros, depth, b".splice", whole, item, left)?;
-        add_spliced(whole, value, &mut forms)?;
+        add_spliced(whole, value, &mut values)?;
     }
-    Ok(listed(alloc, forms)?)
+    Ok(Value::list(alloc, values)?)
 }
 
 /// `.map`, `.for-each` and `.apply`.
@@ -979,7 +961,7 @@ fn are_lists(args: &[Value]) -> bool
     let Some(first) = args.first() else {
         return true;
     };
-    match form_elements(first.form()) {
+    match form_elements(first) {
         Some(items) => are_lists_of(args, items.len()),
         None => false,
     }
@@ -989,7 +971,7 @@ fn are_lists_of(args: &[Value], count: usize) -> bool
     ensures { result ≡ list_all (meant.is_list_of count) args.now }
 {
     for arg in args {
-        match form_elements(arg.form()) {
+        match form_elements(arg) {
             Some(items) => {
                 if items.len() != count {
                     return false;
@@ -1002,10 +984,10 @@ fn are_lists_of(args: &[Value], count: usize) -> bool
 }
 
 /// The elements of a list, or none.
-fn elements_of(form: &Form) -> &[Form]
-    ensures { result.now ≡ meant.elements_of form.now }
+fn elements_of(value: &Value) -> &[Value]
+    ensures { result.now ≡ meant.elements_of value.now }
 {
-    match form_elements(form) {
+    match form_elements(value) {
         Some(items) => items,
         None => &[],
     }
@@ -1027,51 +1009,40 @@ fn apply(
     let Some(list) = args.first() else {
         return Err(misfit(alloc, BuiltIn::Apply));
     };
-    let args = copies(alloc, elements_of(list.form()))?;
-    let call = call_on(alloc, head, args)?;
+    let call = call_on(alloc, head, elements_of(list))?;
     expand(alloc, macros, depth, b".apply", false, &call, left)
 }
 
 /// The call of the head on quoted arguments.
-fn call_on(alloc: Global, head: &Body, args: List<Form>) -> Result<Body, NoMemory>
-    ensures { IfOk result (λ call. call ≡ meant.call_of head.now args) }
+fn call_on(alloc: Global, head: &Body, args: &[Value]) -> Result<Body, NoMemory>
+    ensures { IfOk result (λ call. call ≡ meant.call_of head.now args.now) }
 {
     let mut call = List::new(alloc);
     call.push(copy(alloc, head)?)?;
-    for arg in args.into_vec() {
-        call.push(Body::Quoted(Value::of(alloc, arg)?))?;
+    for arg in args {
+        call.push(Body::Quoted(arg.clone()?))?;
     }
     Ok(Body::Items(call))
 }
 
 /// The element of a list at a place. None past its end, and for a form that is no list.
-fn element_at(form: &Form, k: usize) -> Option<&Form>
-    ensures { option_copied result ≡ slice_get (meant.elements_of form.now) k }
+fn element_at(value: &Value, k: usize) -> Option<&Value>
+    ensures { option_copied result ≡ slice_get (meant.elements_of value.now) k }
 {
-    elements_of(form).get(k)
+    elements_of(value).get(k)
 }
 
 /// The elements of the lists at one place.
-fn row(alloc: Global, args: &[Value], k: usize) -> Result<List<Form>, NoMemory>
-    ensures { IfOk result (λ forms. forms ≡ meant.row k args.now) }
+fn row(alloc: Global, args: &[Value], k: usize) -> Result<List<Value>, NoMemory>
+    ensures { IfOk result (λ values. values ≡ meant.row k args.now) }
 {
-    let mut forms = List::new(alloc);
+    let mut values = List::new(alloc);
     for arg in args {
-        if let Some(item) = element_at(arg.form(), k) {
-            forms.push(item.clone()?)?;
+        if let Some(item) = element_at(arg, k) {
+            values.push(item.clone()?)?;
         }
     }
-    Ok(forms)
-}
-
-fn copies(alloc: Global, forms: &[Form]) -> Result<List<Form>, NoMemory>
-    ensures { IfOk result (λ new. new ≡ forms.now) }
-{
-    let mut new = List::new(alloc);
-    for form in forms {
-        new.push(form.clone()?)?;
-    }
-    Ok(new)
+    Ok(values)
 }
 
 #[cycle(expansion)]
@@ -1091,22 +1062,22 @@ fn map(
     let Some(list) = args.first() else {
         return Err(misfit(alloc, of));
     };
-    let count = elements_of(list.form()).len();
-    let mut forms = beginning(alloc, of)?;
+    let count = elements_of(list).len();
+    let mut values = beginning(alloc, of)?;
     for k in 0..count {
-        let call = call_on(alloc, head, row(alloc, args, k)?)?;
-        forms.push(expand(alloc, macros, depth, of.name(), false, &call, left)?.into_form()?)?;
+        let call = call_on(alloc, head, row(alloc, args, k)?.as_slice())?;
+        values.push(expand(alloc, macros, depth, of.name(), false, &call, left)?)?;
     }
-    Ok(listed(alloc, forms)?)
+    Ok(Value::list(alloc, values)?)
 }
 
 /// What stands in front of the results.
-fn beginning(alloc: Global, of: BuiltIn) -> Result<List<Form>, NoMemory>
-    ensures { IfOk result (λ forms. forms ≡ meant.beginning of) }
+fn beginning(alloc: Global, of: BuiltIn) -> Result<List<Value>, NoMemory>
+    ensures { IfOk result (λ values. values ≡ meant.beginning of) }
 {
-    let mut forms = List::new(alloc);
+    let mut values = List::new(alloc);
     if of.is_for_each() {
-        forms.push(Form::Symbol(Text::of(alloc, b"begin")?))?;
+        values.push(Value::symbol(alloc, Text::of(alloc, b"begin")?)?)?;
     }
-    Ok(forms)
+    Ok(values)
 }

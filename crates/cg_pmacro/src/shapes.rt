@@ -3,6 +3,7 @@ ghost use Rattle.std.specs.Option.{option_copied, option_map};
 ghost use Rattle.cg_pmacro.specs.Shapes as seen;
 
 use crate::body::{Body, Macro};
+use crate::value::{Node, Value};
 use cg_base::{Form, List, NoMemory, Text};
 use std::alloc::Global;
 
@@ -26,21 +27,21 @@ pub fn plain(alloc: Global, form: &Form) -> Result<Body, NoMemory>
 }
 
 /// A form as it is written, its quoted leaves as their content.
-pub fn written(alloc: Global, body: &Body) -> Result<Form, NoMemory>
-    ensures { IfOk result (λ form. form ≡ seen.written body.now) }
+pub fn written(alloc: Global, body: &Body) -> Result<Value, NoMemory>
+    ensures { IfOk result (λ value. value ≡ seen.written body.now) }
 {
     match body {
-        Body::Quoted(value) => Ok(value.form().clone()?),
-        Body::Number(number) => Ok(Form::Number(*number)),
-        Body::Symbol(text) => Ok(Form::Symbol(text.clone()?)),
-        Body::Str(text) => Ok(Form::Str(text.clone()?)),
-        Body::Flag(flag) => Ok(Form::Flag(*flag)),
+        Body::Quoted(value) => Ok(value.clone()?),
+        Body::Number(number) => Ok(Value::number(*number)),
+        Body::Symbol(text) => Ok(Value::symbol(alloc, text.clone()?)?),
+        Body::Str(text) => Ok(Value::string(alloc, text.clone()?)?),
+        Body::Flag(flag) => Ok(Value::flag(*flag)),
         Body::Items(items) => {
-            let mut forms = List::new(alloc);
+            let mut values = List::new(alloc);
             for item in items.as_slice() {
-                forms.push(written(alloc, item)?)?;
+                values.push(written(alloc, item)?)?;
             }
-            Ok(Form::Items(forms))
+            Ok(Value::list(alloc, values)?)
         }
     }
 }
@@ -73,18 +74,41 @@ pub fn same_text(a: &[u8], b: &[u8]) -> bool
 }
 
 /// Whether two forms are of the same kind with the same content.
-pub fn same_form(a: &Form, b: &Form) -> bool
+pub fn same_form(a: &Value, b: &Value) -> bool
     ensures { result ≡ seen.same_form a.now b.now }
 {
-    a == b
+    match (&a.node, &b.node) {
+        (Node::Number(m), Node::Number(n)) => m == n,
+        (Node::Symbol(s), Node::Symbol(t)) => s.as_ref() == t.as_ref(),
+        (Node::Str(s), Node::Str(t)) => s.as_ref() == t.as_ref(),
+        (Node::Flag(f), Node::Flag(g)) => f == g,
+        (Node::Items(_, items), Node::Items(_, others)) => {
+            let others = others.as_ref().as_slice();
+            let items = items.as_ref().as_slice();
+            if items.len() != others.len() {
+                return false;
+            }
+            for (k, item) in items.iter().enumerate() {
+                let Some(other) = others.get(k) else {
+                    return false;
+                };
+                if !same_form(item, other) {
+                    return false;
+                }
+            }
+            true
+        }
+        _ => false,
+    }
 }
 
 /// The text of a form that is a symbol.
-pub fn form_symbol(form: &Form) -> Option<&Text>
-    ensures { option_copied result ≡ seen.form_symbol form.now }
+#[tactic(auto, using(crate::proofs::Values::value_rules))]
+pub fn form_symbol(value: &Value) -> Option<&Text>
+    ensures { option_copied result ≡ seen.form_symbol value.now }
 {
-    match form {
-        Form::Symbol(text) => Some(text),
+    match &value.node {
+        Node::Symbol(text) => Some(text.as_ref()),
         _ => None,
     }
 }
@@ -94,7 +118,7 @@ pub fn called(body: &Body) -> Option<&Text>
     ensures { option_copied result ≡ seen.called body.now }
 {
     match body {
-        Body::Quoted(value) => form_symbol(value.form()),
+        Body::Quoted(value) => form_symbol(value),
         Body::Symbol(text) => Some(text),
         _ => None,
     }
@@ -214,11 +238,11 @@ pub fn begins_with_dot(text: &[u8]) -> bool
 }
 
 /// Whether the form is that value, its quoted leaves as their content.
-pub fn is_value(alloc: Global, body: &Body, value: &Form) -> Result<bool, NoMemory>
+pub fn is_value(alloc: Global, body: &Body, value: &Value) -> Result<bool, NoMemory>
     ensures { IfOk result (λ same. same ≡ seen.same_form (seen.written body.now) value.now) }
 {
     match body {
-        Body::Quoted(content) => Ok(same_form(content.form(), value)),
+        Body::Quoted(content) => Ok(same_form(content, value)),
         _ => {
             let form = written(alloc, body)?;
             Ok(same_form(&form, value))

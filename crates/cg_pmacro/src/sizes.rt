@@ -5,21 +5,22 @@ ghost use Rattle.cg_pmacro.specs.Expansion.{charge as cost_of};
 
 use crate::body::Body;
 use crate::fault::{Halt, faulty};
-use crate::value::Value;
-use cg_base::{Form, NoMemory};
+use crate::value::{Node, Value};
+use cg_base::NoMemory;
 use std::alloc::Global;
 
 /// How deep lists may stand one within another in a result.
 const LISTS: u32 = 200;
 
 /// What is left of some units when the form's nodes are taken. None where they are too few.
-pub fn without_nodes(form: &Form, left: u64) -> Option<u64>
-    ensures { SomeIff result (nodes form.now ≤ left) (left - nodes form.now) }
+#[tactic(auto, using(crate::proofs::Values::value_rules))]
+pub fn without_nodes(value: &Value, left: u64) -> Option<u64>
+    ensures { SomeIff result (nodes value.now ≤ left) (left - nodes value.now) }
 {
-    match form {
-        Form::Items(items) => {
+    match &value.node {
+        Node::Items(_, items) => {
             let mut rest = left.checked_sub(1)?;
-            for item in items.as_slice() {
+            for item in items.as_ref().as_slice() {
                 rest = without_nodes(item, rest)?;
             }
             Some(rest)
@@ -29,15 +30,16 @@ pub fn without_nodes(form: &Form, left: u64) -> Option<u64>
 }
 
 /// Whether so many lists stand one within another in the form at most.
-pub fn is_within(form: &Form, most: u32) -> bool
-    ensures { IsTrue result ↔ (lists form.now ≤ most) }
+#[tactic(auto, using(crate::proofs::Values::value_rules))]
+pub fn is_within(value: &Value, most: u32) -> bool
+    ensures { IsTrue result ↔ (lists value.now ≤ most) }
 {
-    match form {
-        Form::Items(items) => {
+    match &value.node {
+        Node::Items(_, items) => {
             if most == 0 {
                 return false;
             }
-            for item in items.as_slice() {
+            for item in items.as_ref().as_slice() {
                 if !is_within(item, most - 1) {
                     return false;
                 }
@@ -49,13 +51,14 @@ pub fn is_within(form: &Form, most: u32) -> bool
 }
 
 /// How many lists stand one within another in the form.
-pub fn form_depth(form: &Form) -> Result<u64, NoMemory>
-    ensures { IfOk result (λ depth. depth ≡ lists form.now) }
+#[tactic(auto, using(crate::proofs::Values::value_rules))]
+pub fn form_depth(value: &Value) -> Result<u64, NoMemory>
+    ensures { IfOk result (λ depth. depth ≡ lists value.now) }
 {
-    match form {
-        Form::Items(items) => {
+    match &value.node {
+        Node::Items(_, items) => {
             let mut depth = 0;
-            for item in items.as_slice() {
+            for item in items.as_ref().as_slice() {
                 depth = form_depth(item)?.max(depth);
             }
             depth.checked_add(1).ok_or(NoMemory)
@@ -87,10 +90,10 @@ pub fn charge(alloc: Global, name: &[u8], value: Value, left: &mut u64) -> Resul
     let Some(before) = left.checked_sub(1) else {
         return Err(faulty(alloc, 203, b"4000000"));
     };
-    let Some(rest) = without_nodes(value.form(), before) else {
+    let Some(rest) = without_nodes(&value, before) else {
         return Err(faulty(alloc, 203, b"4000000"));
     };
-    if !is_within(value.form(), LISTS) {
+    if !is_within(&value, LISTS) {
         return Err(faulty(alloc, 204, name));
     }
     *left = rest;

@@ -188,7 +188,7 @@ fn outcome(alloc: Global, text: &[u8]) -> Result<Text, NoMemory> {
     Ok(out)
 }
 
-const CASES: [(&[u8], &[u8]); 54] = [
+const CASES: [(&[u8], &[u8]); 57] = [
     (
         b"(define-pmacro (g a) (.let ((t 1)) (.list a t)))\n(.error (.ref (g t) 0) \",\" (.ref (g t) 1) \",\" (.length (g t)))",
         b"E205 2 t,1,2",
@@ -287,6 +287,18 @@ const CASES: [(&[u8], &[u8]); 54] = [
         b"2 (1);",
     ),
     (b"(define-pmacro (f x) (x x))\n(f f)", b"E204 2 f"),
+    (
+        b"(define-pmacro (r n) (.if (.eq n 0) done (r (.sub n 1))))\n(x (r 498))",
+        b"2 (x done);",
+    ),
+    (
+        b"(define-pmacro (r n) (.if (.eq n 0) done (r (.sub n 1))))\n(r 499)",
+        b"E204 2 .eq",
+    ),
+    (
+        b"(define-pmacro (e n x) (.if (.eq n 0) (.length x) (e (.sub n 1) (x x))))\n(e 60 a)",
+        b"2 2;",
+    ),
     (
         b"(define-pmacro (d x) (.list x x))\n(d (d (d (d (d (d (d (d (d (d (d (d (d (d (d (d (d (d (d (d (d (d (d (d (d (d (d (d (d (d 1))))))))))))))))))))))))))))))",
         b"E203 2 4000000",

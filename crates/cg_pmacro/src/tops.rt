@@ -17,6 +17,7 @@ use crate::shapes::{
     own_symbol, plain,
 };
 use crate::sizes::{form_depth, levels};
+use crate::value::Value;
 use cg_base::{Form, Forms, List, NoMemory, Refusal, Stop, Text, Top};
 use std::alloc::Global;
 
@@ -185,22 +186,22 @@ fn expand_result(
     ensures { GivesTop (meant.top_expanded body.now (meant.state macros.now left.old)) result macros.now left.new }
 {
     let value = expand_form(alloc, macros.as_slice(), DEPTH, b"", false, body, left)?;
-    let depth = form_depth(value.form())?;
-    Ok(split(alloc, depth, value.form())?)
+    let depth = form_depth(&value)?;
+    Ok(split(alloc, depth, &value)?)
 }
 
 /// The forms that a form which an expansion gave stands for.
 #[cycle(splitting)]
 #[tactic(auto, using(crate::proofs::TopRules::top_rules))]
-fn split(alloc: Global, depth: u64, form: &Form) -> Result<List<Form>, Halt>
-    ensures { Answers (splitting.split_to depth form.now) result }
+fn split(alloc: Global, depth: u64, value: &Value) -> Result<List<Form>, Halt>
+    ensures { Answers (splitting.split_to depth value.now) result }
 {
-    let head = form_head(form);
+    let head = form_head(value);
     if is_named(b"begin", head) {
         if depth == 0 {
             return Ok(List::new(alloc));
         }
-        return Ok(split_parts(alloc, depth - 1, form)?);
+        return Ok(split_parts(alloc, depth - 1, value)?);
     }
     if is_named(b"include", head) {
         return Err(faulty(alloc, 307, b"include"));
@@ -209,36 +210,36 @@ fn split(alloc: Global, depth: u64, form: &Form) -> Result<List<Form>, Halt>
         return Err(faulty(alloc, 307, b"define-pmacro"));
     }
     let mut done = List::new(alloc);
-    done.push(form.clone()?)?;
+    done.push(value.form(alloc)?)?;
     Ok(done)
 }
 
 #[cycle(splitting)]
 #[tactic(auto, using(crate::proofs::TopRules::top_rules))]
-fn split_parts(alloc: Global, depth: u64, form: &Form) -> Result<List<Form>, Halt>
-    ensures { Answers (splitting.split_each (splitting.split_to depth) (splitting.behind_head form.now)) result }
+fn split_parts(alloc: Global, depth: u64, value: &Value) -> Result<List<Form>, Halt>
+    ensures { Answers (splitting.split_each (splitting.split_to depth) (splitting.behind_head value.now)) result }
 {
     let mut done = List::new(alloc);
-    for item in form_behind_head(form) {
+    for item in form_behind_head(value) {
         let parts = split(alloc, depth, item)?;
         append(&mut done, parts)?;
     }
     Ok(done)
 }
 
-fn form_behind_head(form: &Form) -> &[Form]
-    ensures { result.now ≡ splitting.behind_head form.now }
+fn form_behind_head(value: &Value) -> &[Value]
+    ensures { result.now ≡ splitting.behind_head value.now }
 {
-    match form_elements(form) {
+    match form_elements(value) {
         Some(items) => { if items.is_empty() { items } else { &items[1..] } }
         None => &[],
     }
 }
 
-fn form_head(form: &Form) -> Option<&Text>
-    ensures { option_copied result ≡ splitting.form_head form.now }
+fn form_head(value: &Value) -> Option<&Text>
+    ensures { option_copied result ≡ splitting.form_head value.now }
 {
-    match form_elements(form) {
+    match form_elements(value) {
         Some([]) => None,
         Some([head, ..]) => form_symbol(head),
         None => None,

@@ -27,7 +27,7 @@ loop-k-preserved c =
     let first : fits_64 s ≡ true = bounds_fit s (omega (arith, ints)) (omega (arith, ints)) in
     let here : v ≡ s +ℤ (pos k *ℤ d) = c.loop-k.invariant.next c.loop-k-test.true in
     let more = numbers_next (k + 1) k s d refl in
-    let pushed : c.push.new.self ≡ c.loop-k.forms ++ Number v ∷ [] = c.in_ok-push.ensures.ok in
+    let pushed : c.push.new.self ≡ c.loop-k.forms ++ Number v ∷ [] = c.in_ok-push.ensures.ok ∙ ap (λ (f : Form). c.loop-k.forms ++ f ∷ []) c.number.ensures in
     let before : c.loop-k.forms ++ Number v ∷ [] ≡ numbers k s d ++ Number v ∷ [] = ap (λ (fs : List Form). fs ++ Number v ∷ []) c.loop-k.invariant.made in
     let last : numbers k s d ++ Number v ∷ [] ≡ numbers k s d ++ Number (s +ℤ (pos k *ℤ d)) ∷ [] = ap (λ z. numbers k s d ++ Number z ∷ []) here in
     record {

@@ -4,4 +4,4 @@ use Rattle.cg_pmacro.proofs.sizes.+form_depth.Given as goal
 
 -- the rest gives what the whole gives
 abbrev pub invariant-loop-item : goal.invariant-loop-item
-invariant-loop-item l = max l.depth (greatest_of (map lists (drop l.item-index l.item-items))) + 1 ≡ lists l.form
+invariant-loop-item l = max l.depth (greatest_of (map lists (drop l.item-index l.item-items))) + 1 ≡ lists l.value
