@@ -8,7 +8,7 @@ use Rattle.cg_pmacro.specs.declared.fault.Fault.{Fault}
 use Rattle.cg_pmacro.specs.declared.fault.Halt.{Halt}
 use Rattle.cg_pmacro.specs.declared.fault.Halt.TheVariants.{Faulty, NoMemory}
 use Rattle.cg_pmacro.specs.declared.body.Body.{Body}
-use Rattle.cg_pmacro.specs.declared.body.Body.TheViews.{out-Body, outs-Quoted, outs-Number, outs-Symbol, outs-Str, outs-Flag, outs-Items}
+use Rattle.cg_pmacro.specs.declared.body.Body.TheViews.{outs-Quoted, outs-Number, outs-Symbol, outs-Str, outs-Flag, outs-Items}
 use Rattle.cg_pmacro.specs.declared.body.Body.TheVariants.{Quoted, Number, Symbol, Str, Flag, Items}
 use Rattle.cg_pmacro.specs.declared.body.Binding.{Binding}
 use Rattle.cg_pmacro.specs.declared.body.Macro.{Macro}

@@ -1,5 +1,5 @@
--- What a form expands to (docs/LANGUAGE.md, "Macros"): cost, depth, calls of macros, calls of the built-in macros, and the
--- expansion of a form, which leads back to them.
+-- What a form expands to (docs/LANGUAGE.md, "Macros"): the cost of a call and the depth, calls of macros, each built-in macro,
+-- and then what a form is and comes to. How the forms within it expand is a parameter, `within`, up to the last definition.
 use Rattle.std.specs.Prelude.{ℕ, zero, suc, ◌+◌, ◌-◌, ◌==◌, nat_lt, Bool, true, false, not, ◌&&◌, ◌||◌, List, [], ◌∷◌, ◌++◌, map, length, drop, slice_get, filter_map, Option, Some, None, is_some, unwrap_or, Ok, Err, codes, if◌then◌else◌}
 use Rattle.std.specs.List.{list_all, list_any, range_with_len}
 use Rattle.cg_base.specs.declared.form.Form.{Form}
@@ -14,11 +14,11 @@ use Rattle.cg_pmacro.specs.declared.built_in.BuiltIn.{BuiltIn}
 use Rattle.cg_pmacro.specs.declared.built_in.BuiltIn.TheVariants as own
 use Rattle.cg_pmacro.specs.Outcome.{Answer, Paid, ◌>>=◌, pure, fails, lift, each, each_joined, fault, choose}
 use Rattle.cg_pmacro.specs.Sizes.{nodes, lists}
-use Rattle.cg_pmacro.specs.Shapes.{same_form, written, called, head_name, is_named, own_symbol, elements, form_elements, is_list, pmacro_form, pmacro_head, pair_of, binding, names_of, macro_named, begins_with_dot}
+use Rattle.cg_pmacro.specs.Shapes.{same_form, written, called, head_name, is_named, own_symbol, elements, form_elements, is_list, pmacro_form, pmacro_head, pair_of, binding, formal_names, macro_named, begins_with_dot}
 use Rattle.cg_pmacro.specs.BuiltIns.{name_of, built_in, is_lazy, miscounted, misfit, is_false, iota_of, ordinary}
 use Rattle.cg_pmacro.specs.Replacing.{Table, replaced, without}
 
--- How a form expands: within which macro or built-in macro, and whether it is an argument of `.splice`.
+-- How a form expands: the innermost macro or built-in macro around it, and whether it is an argument of `.splice`.
 abbrev pub Expander : Type 0
 Expander = List ℕ → Bool → Body → Paid Form
 
@@ -33,7 +33,7 @@ charge name f left =
 abbrev pub charged : List ℕ → Paid Form → Paid Form
 charged name call = call >>= charge name
 
--- How forms one deeper expand, where they may stand so deep.
+-- A list, or a symbol that names a macro without arguments, stands one deeper than what is around it, where it may: else E204.
 abbrev pub entered : Option Expander → List ℕ → Paid Expander
 entered None name = fails (fault 204 name)
 entered (Some within) name = pure within
@@ -55,14 +55,13 @@ abbrev pub call_written : Expander → List ℕ → List (List ℕ) → Body →
 call_written within name formals b args =
     if length args == length formals then within name false (replaced (bindings formals args) b) else fails (fault 201 name)
 
--- A call of a macro expands its arguments from left to right, and then the body with these.
+-- A call of a macro expands its arguments from left to right, and then the body with these in it.
 abbrev pub macro_called : Expander → List ℕ → List (List ℕ) → Body → List Body → Paid Form
 macro_called within name formals b args = charged name (each (within name false) args >>= call_written within name formals b)
 
 -- `(.pmacro (arg ..) body)`: its formals, which are distinct symbols, and its body
 unfoldable pub pmacro : List Body → Answer (List (List ℕ) × Body)
-pmacro (head ∷ formals ∷ b ∷ []) =
-    choose (elements formals) (λ bs. choose (names_of bs) (λ names. Ok (names, b)) (Err (misfit own.Pmacro))) (Err (misfit own.Pmacro))
+pmacro (head ∷ formals ∷ b ∷ []) = choose (formal_names formals) (λ names. Ok (names, b)) (Err (misfit own.Pmacro))
 pmacro _ = Err (miscounted own.Pmacro)
 
 -- A `.pmacro` form in the place of a head is called, and isn't expanded.
@@ -82,41 +81,47 @@ chosen within b taking = do
   taken ← taking
   choose taken (within (name_of b) false) (pure (form.Items []))
 
-abbrev pub branch : List Body → Bool → Answer (Option Body)
-branch (a ∷ []) fails = Ok (if fails then None else Some a)
-branch (a ∷ b ∷ []) fails = Ok (Some (if fails then b else a))
-branch _ fails = Err (miscounted own.If)
+abbrev pub branch : List Body → Form → Answer (Option Body)
+branch (a ∷ []) c = Ok (if is_false c then None else Some a)
+branch (a ∷ b ∷ []) c = Ok (Some (if is_false c then b else a))
+branch _ c = Err (miscounted own.If)
 
 -- `(.if c a [b])`: a where c isn't `#f`, else b
 abbrev pub take_if : Expander → List Body → Paid (Option Body)
 take_if within [] = fails (miscounted own.If)
 take_if within (c ∷ branches) = do
   f ← within (codes ".if") false c
-  lift (branch branches (is_false f))
+  lift (branch branches f)
 
 -- the arm is the last, headed by the symbol `else`
 abbrev pub is_else : Body → List Body → Bool
 is_else c [] = is_named (codes "else") (own_symbol c)
 is_else c (_ ∷ _) = false
 
+-- this arm where its c isn't `#f`, else what the rest take
+abbrev pub arm_or : Expander → Body × Body → Paid (Option Body) → Paid (Option Body)
+arm_or within arm rest = do
+  c ← within (codes ".cond") false arm.0
+  if is_false c then rest else pure (Some arm.1)
+
 -- the first arm whose c isn't `#f`, up to one that isn't a list of two
 abbrev pub first_arm : Expander → List Body → Paid (Option Body)
 first_arm within [] = pure None
 first_arm within (arm ∷ arms) =
     choose (pair_of arm)
-    (λ p. if is_else p.0 arms then pure (Some p.1) else (within (codes ".cond") false p.0 >>= λ f. if is_false f then first_arm within arms else pure (Some p.1)))
+    (λ p. if is_else p.0 arms then pure (Some p.1) else arm_or within p (first_arm within arms))
     (pure None)
 
 abbrev pub is_pair : Body → Bool
 is_pair b = is_some (pair_of b)
 
--- `(.cond (c e) .. [(else e)])`: the first e whose c isn't `#f`
+-- `(.cond (c e) .. [(else e)])`: the first e whose c isn't `#f`. Each arm is a list of two, also one that isn't reached.
 abbrev pub take_cond : Expander → List Body → Paid (Option Body)
 take_cond within arms = do
   taken ← first_arm within arms
   if list_all is_pair arms then pure taken else fails (misfit own.Cond)
 
--- an arm is a list of two, whose first is a list of values or, in the last, `else`
+-- Each arm of `.case` is a list of two, whose first is a list of values or, in the last, `else`.
 abbrev pub are_arms : List Body → Bool
 are_arms [] = true
 are_arms (arm ∷ arms) = choose (pair_of arm) (λ p. is_else p.0 arms || is_list p.0) false && are_arms arms
@@ -261,7 +266,7 @@ abbrev pub are_lists : List Form → Bool
 are_lists [] = true
 are_lists (l ∷ ls) = choose (form_elements l) (λ fs. list_all (is_list_of (length fs)) (l ∷ ls)) false
 
--- E201 comes before E202.
+-- A wrong count comes before an argument that isn't of its kind.
 unfoldable pub over_checked : List Macro → BuiltIn → Body → List Form → Answer (Unit {0})
 over_checked macros b m args =
     if takes_lists b (length args) then if is_callable macros m && are_lists args then Ok tt else Err (misfit b)
@@ -365,7 +370,7 @@ comes_to macros within inner in_splice (other_list None bs) = listed (each (with
 comes_to macros within inner in_splice (other_list (Some name) bs) =
     if begins_with_dot name then fails (fault 207 name) else listed (each (within inner false) bs)
 
--- The depth at entry comes before all else.
+-- The fault of the depth comes before all others.
 abbrev pub of_kind : List Macro → Option Expander → List ℕ → Bool → Kind → Paid Form
 of_kind macros deeper inner in_splice (itself f) = pure f
 of_kind macros deeper inner in_splice kind = do

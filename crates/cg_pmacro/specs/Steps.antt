@@ -1,13 +1,10 @@
 -- What the crate's private functions say of their steps. The meaning of expansion doesn't need it.
-use Rattle.std.specs.Prelude.{◌≡◌, ℕ, zero, suc, ◌+◌, nat_lt, Bool, true, false, List, [], ◌∷◌, ◌++◌, drop, Option, Some, None, Result, Ok, Err, codes, if◌then◌else◌}
+use Rattle.std.specs.Prelude.{◌≡◌, ℕ, zero, suc, ◌+◌, nat_lt, Bool, true, false, List, [], ◌∷◌, ◌++◌, Option, Some, None, Result, Ok, Err, codes, if◌then◌else◌}
 use Rattle.cg_base.specs.declared.form.Form.{Form}
-use Rattle.cg_base.specs.declared.form.Form.TheVariants as form
 use Rattle.cg_base.specs.declared.form.Top.{Top}
 use Rattle.cg_base.specs.declared.refusal.Stop.{Stop}
 use Rattle.cg_base.specs.declared.refusal.Stop.TheVariants as stop
 use Rattle.cg_pmacro.specs.declared.body.Body.{Body}
-use Rattle.cg_pmacro.specs.declared.body.Body.TheOpen as body
-use Rattle.cg_pmacro.specs.declared.body.Body.TheOpen.{Body-F}
 use Rattle.cg_pmacro.specs.declared.body.Macro.{Macro}
 use Rattle.cg_pmacro.specs.declared.built_in.BuiltIn.{BuiltIn}
 use Rattle.cg_pmacro.specs.declared.built_in.BuiltIn.TheVariants as own
@@ -16,13 +13,12 @@ use Rattle.cg_pmacro.specs.declared.built_in.Manner.TheVariants as way
 use Rattle.cg_pmacro.specs.declared.fault.Fault.{Fault}
 use Rattle.cg_pmacro.specs.declared.fault.Halt.{Halt}
 use Rattle.cg_pmacro.specs.declared.fault.Halt.TheVariants.{Faulty, NoMemory}
-use Rattle.cg_pmacro.specs.Outcome.{Answer, Paid, Run, ◌>>=◌, choose, fault, fails, lift, each, pure}
+use Rattle.cg_pmacro.specs.Outcome.{Answer, Paid, Run, ◌>>=◌, fault, lift, each}
 use Rattle.cg_pmacro.specs.Reports.{Halts}
 use Rattle.cg_pmacro.specs.Sizes.{nodes}
-use Rattle.cg_pmacro.specs.BuiltIns.{name_of, built_in, iota_of, ordinary}
-use Rattle.cg_pmacro.specs.Shapes.{head_name, pmacro_head, macro_named, begins_with_dot}
+use Rattle.cg_pmacro.specs.BuiltIns.{name_of, iota_of, ordinary}
 use Rattle.cg_pmacro.specs.Replacing.{Table, without}
-use Rattle.cg_pmacro.specs.Expansion.{Expander, entered, charged, listed, macro_called, call_pmacro, with_arguments, without_arguments, expanded, chosen, take_if, take_cond, take_case, call_let, stray_pmacro, call_over, spliced_list, own_result}
+use Rattle.cg_pmacro.specs.Expansion.{Expander, expanded, chosen, take_if, take_cond, take_case, call_let, stray_pmacro, call_over, spliced_list}
 use Rattle.cg_pmacro.specs.Splitting.{split_to, nothing}
 use Rattle.cg_pmacro.specs.Tops.{State, state, refusal, top_to, no_forms}
 
