@@ -1,5 +1,5 @@
--- What a form expands to (docs/LANGUAGE.md, "Macros"): the cost of a call and the depth, calls of macros, each built-in macro,
--- and then what a form is and comes to. How the forms within it expand is a parameter, `within`, up to the last definition.
+-- What a form expands to (docs/LANGUAGE.md, "Macros"): the cost of a call, calls of macros, each built-in macro, and then what
+-- a form is, what it comes to, and how deep it may stand. How the forms within it expand is a parameter, `within`, up to the last definition.
 use Rattle.std.specs.Prelude.{ℕ, zero, suc, ◌+◌, ◌-◌, ◌==◌, nat_lt, Bool, true, false, not, ◌&&◌, ◌||◌, List, [], ◌∷◌, ◌++◌, map, length, drop, slice_get, filter_map, Option, Some, None, is_some, unwrap_or, Ok, Err, codes, if◌then◌else◌}
 use Rattle.std.specs.List.{list_all, list_any, range_with_len}
 use Rattle.cg_base.specs.declared.form.Form.{Form}
@@ -32,11 +32,6 @@ charge name f left =
 -- The cost is charged once the result is known.
 abbrev pub charged : List ℕ → Paid Form → Paid Form
 charged name call = call >>= charge name
-
--- A list, or a symbol that names a macro without arguments, stands one deeper than what is around it, where it may: else E204.
-abbrev pub entered : Option Expander → List ℕ → Paid Expander
-entered None name = fails (fault 204 name)
-entered (Some within) name = pure within
 
 -- the list of several results
 abbrev pub listed : Paid (List Form) → Paid Form
@@ -350,14 +345,6 @@ layer_kind macros (body.Items bs) = list_kind macros bs
 abbrev pub kind_of : List Macro → Body → Kind
 kind_of macros b = layer_kind macros (out-Body b)
 
--- E204 has the name of the macro, and at a list that isn't a call that of the innermost one around.
-abbrev pub entry_name : List ℕ → Kind → List ℕ
-entry_name inner (macro_symbol name b) = name
-entry_name inner (macro_call name formals b args) = name
-entry_name inner (pmacro_call form args) = codes ".pmacro"
-entry_name inner (own_call b args) = name_of b
-entry_name inner _ = inner
-
 -- A call comes to what is called, and a symbol to the expansion of its body, each with its cost. A list that isn't a call is
 -- the list of the expansions of its elements, from left to right; its head may not begin with a dot.
 abbrev pub comes_to : List Macro → Expander → List ℕ → Bool → Kind → Paid Form
@@ -370,14 +357,18 @@ comes_to macros within inner in_splice (other_list None bs) = listed (each (with
 comes_to macros within inner in_splice (other_list (Some name) bs) =
     if begins_with_dot name then fails (fault 207 name) else listed (each (within inner false) bs)
 
--- The fault of the depth comes before all others.
-abbrev pub of_kind : List Macro → Option Expander → List ℕ → Bool → Kind → Paid Form
-of_kind macros deeper inner in_splice (itself f) = pure f
-of_kind macros deeper inner in_splice kind = do
-  within ← entered deeper (entry_name inner kind)
-  comes_to macros within inner in_splice kind
+-- Where nothing may stand deeper, only a form that is itself expands. The fault has the name of the macro, and in a list that
+-- isn't a call that of the innermost one around it.
+abbrev pub too_deep : List ℕ → Kind → Paid Form
+too_deep inner (itself f) = pure f
+too_deep inner (macro_symbol name b) = fails (fault 204 name)
+too_deep inner (macro_call name formals b args) = fails (fault 204 name)
+too_deep inner (pmacro_call form args) = fails (fault 204 (codes ".pmacro"))
+too_deep inner (own_call b args) = fails (fault 204 (name_of b))
+too_deep inner (other_list name bs) = fails (fault 204 inner)
 
--- What a form expands to, where lists and symbols that expand may still stand so deep one within another.
+-- What a form expands to, where lists, and symbols that name a macro without arguments, may still stand so deep one within
+-- another. The fault of the depth comes before all others.
 unfoldable pub expanded : List Macro → ℕ → Expander
-expanded macros zero inner in_splice b = of_kind macros None inner in_splice (kind_of macros b)
-expanded macros (suc k) inner in_splice b = of_kind macros (Some (expanded macros k)) inner in_splice (kind_of macros b)
+expanded macros zero inner in_splice b = too_deep inner (kind_of macros b)
+expanded macros (suc k) inner in_splice b = comes_to macros (expanded macros k) inner in_splice (kind_of macros b)

@@ -18,7 +18,7 @@ use Rattle.cg_pmacro.specs.Reports.{Halts}
 use Rattle.cg_pmacro.specs.Sizes.{nodes}
 use Rattle.cg_pmacro.specs.BuiltIns.{name_of, iota_of, ordinary}
 use Rattle.cg_pmacro.specs.Replacing.{Table, without}
-use Rattle.cg_pmacro.specs.Expansion.{Expander, expanded, chosen, take_if, take_cond, take_case, call_let, stray_pmacro, call_over, spliced_list}
+use Rattle.cg_pmacro.specs.Expansion.{Expander, Kind, too_deep, comes_to, expanded, chosen, take_if, take_cond, take_case, call_let, stray_pmacro, call_over, spliced_list}
 use Rattle.cg_pmacro.specs.Splitting.{split_to, nothing}
 use Rattle.cg_pmacro.specs.Tops.{State, state, refusal, top_to, no_forms}
 
@@ -36,10 +36,10 @@ abbrev pub stopped : {A : Type 0} → Top → Result A Halt → Result A Stop
 stopped t (Ok a) = Ok a
 stopped t (Err h) = Err (stop_of t h)
 
--- how forms one deeper expand, where they may stand there
-abbrev pub further : List Macro → ℕ → Option Expander
-further macros zero = None
-further macros (suc k) = Some (expanded macros k)
+-- what a form of a kind comes to, where lists and symbols that expand may still stand so deep
+abbrev pub at_depth : List Macro → ℕ → List ℕ → Bool → Kind → Paid Form
+at_depth macros zero inner in_splice kind = too_deep inner kind
+at_depth macros (suc k) inner in_splice kind = comes_to macros (expanded macros k) inner in_splice kind
 
 -- how top forms within a `begin` stand
 abbrev pub further_top : ℕ → Body → Run State Fault (List Form)

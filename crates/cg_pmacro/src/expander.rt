@@ -97,7 +97,7 @@ fn expand_symbol(
     name: &Text,
     left: &mut u64,
 ) -> Result<Value, Halt>
-    ensures { Gives (meant.of_kind macros.now (steps.further macros.now depth) [] false (meant.symbol_kind macros.now name.now) left.old) result left.new }
+    ensures { Gives (steps.at_depth macros.now depth [] false (meant.symbol_kind macros.now name.now) left.old) result left.new }
 {
     let Some(found) = macro_named(macros, name.as_slice()) else {
         return Ok(symbol(alloc, name)?);
@@ -132,7 +132,7 @@ fn expand_list(
     items: &[Body],
     left: &mut u64,
 ) -> Result<Value, Halt>
-    ensures { Gives (meant.of_kind macros.now (steps.further macros.now depth) inner.now spliced (meant.list_kind macros.now items.now) left.old) result left.new }
+    ensures { Gives (steps.at_depth macros.now depth inner.now spliced (meant.list_kind macros.now items.now) left.old) result left.new }
 {
     let Some(head) = items.first() else {
         return expand_plain(alloc, macros, depth, inner, items, left);
@@ -178,7 +178,7 @@ fn expand_named(
     left: &mut u64,
 ) -> Result<Value, Halt>
     requires { args.now ≡ drop 1 items.now }
-    ensures { Gives (meant.of_kind macros.now (steps.further macros.now depth) inner.now spliced (meant.named_kind macros.now name.now items.now) left.old) result left.new }
+    ensures { Gives (steps.at_depth macros.now depth inner.now spliced (meant.named_kind macros.now name.now items.now) left.old) result left.new }
 {
     if let Some((formals, body)) = with_arguments(macros, name) {
         if depth == 0 {
@@ -224,7 +224,7 @@ fn expand_plain(
     items: &[Body],
     left: &mut u64,
 ) -> Result<Value, Halt>
-    ensures { Gives (meant.of_kind macros.now (steps.further macros.now depth) inner.now false (meant.other_list None items.now) left.old) result left.new }
+    ensures { Gives (steps.at_depth macros.now depth inner.now false (meant.other_list None items.now) left.old) result left.new }
 {
     if depth == 0 {
         return Err(faulty(alloc, 204, inner));
