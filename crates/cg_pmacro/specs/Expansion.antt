@@ -221,38 +221,6 @@ call_of m args = Items (m ∷ map Quoted args)
 abbrev pub row : ℕ → List Form → List Form
 row k ls = filter_map (λ l. slice_get (elements_of l) k) ls
 
-abbrev pub is_for_each : BuiltIn → Bool
-is_for_each own.ForEach = true
-is_for_each _ = false
-
-abbrev pub is_apply : BuiltIn → Bool
-is_apply own.Apply = true
-is_apply _ = false
-
--- what stands in front of the results: the symbol `begin`, where they are to be top forms
-abbrev pub beginning : BuiltIn → List Form
-beginning b = if is_for_each b then form.Symbol (codes "begin") ∷ [] else []
-
--- the results of m on the lists' elements, place by place
-abbrev pub results : Expander → BuiltIn → Body → List Form → List ℕ → Paid (List Form)
-results within b m ls places = each (λ k. within (name_of b) false (call_of m (row k ls))) places
-
--- `(.map m l ..)` and `(.for-each m l ..)`: the list of m's results on the lists' elements
-unfoldable pub mapped : Expander → BuiltIn → Body → List Form → Paid Form
-mapped within b m [] = fails (misfit b)
-mapped within b m (l ∷ ls) = do
-  fs ← results within b m (l ∷ ls) (range_with_len 0 (length (elements_of l)))
-  pure (form.Items (beginning b ++ fs))
-
--- `(.apply m l)`: m called with the elements of l
-unfoldable pub applied : Expander → Body → List Form → Paid Form
-applied within m [] = fails (misfit own.Apply)
-applied within m (l ∷ ls) = within (codes ".apply") false (call_of m (elements_of l))
-
--- how many lists they take
-abbrev pub takes_lists : BuiltIn → ℕ → Bool
-takes_lists b n = if is_apply b then n == 1 else nat_lt 0 n
-
 abbrev pub is_list_of : ℕ → Form → Bool
 is_list_of n f = choose (form_elements f) (λ fs. length fs == n) false
 
@@ -261,24 +229,33 @@ abbrev pub are_lists : List Form → Bool
 are_lists [] = true
 are_lists (l ∷ ls) = choose (form_elements l) (λ fs. list_all (is_list_of (length fs)) (l ∷ ls)) false
 
+-- the results of m on the lists' elements, place by place
+abbrev pub results : Expander → BuiltIn → Body → List Form → List ℕ → Paid (List Form)
+results within b m ls places = each (λ k. within (name_of b) false (call_of m (row k ls))) places
+
+-- `(.map m l ..)`: the list of m's results on the lists' elements. That of `(.for-each m l ..)` has the symbol `begin` in front.
 -- A wrong count comes before an argument that isn't of its kind.
-unfoldable pub over_checked : List Macro → BuiltIn → Body → List Form → Answer (Unit {0})
-over_checked macros b m args =
-    if takes_lists b (length args) then if is_callable macros m && are_lists args then Ok tt else Err (misfit b)
-    else Err (miscounted b)
+abbrev pub mapped : List Macro → Expander → BuiltIn → List Form → Body → List Form → Paid Form
+mapped macros within b front m [] = fails (miscounted b)
+mapped macros within b front m (l ∷ ls) =
+    if is_callable macros m && are_lists (l ∷ ls)
+    then (results within b m (l ∷ ls) (range_with_len 0 (length (elements_of l))) >>= λ fs. pure (form.Items (front ++ fs)))
+    else fails (misfit b)
 
-unfoldable pub over : List Macro → Expander → BuiltIn → Body → List Form → Paid Form
-over macros within b m args = do
-  _ ← lift (over_checked macros b m args)
-  if is_apply b then applied within m args else mapped within b m args
+-- `(.apply m l)`: m called with the elements of l
+abbrev pub applied : List Macro → Expander → Body → List Form → Paid Form
+applied macros within m (l ∷ []) =
+    if is_callable macros m && are_lists (l ∷ []) then within (codes ".apply") false (call_of m (elements_of l))
+    else fails (misfit own.Apply)
+applied macros within m ls = fails (miscounted own.Apply)
 
--- `.map`, `.for-each` and `.apply` expand m and their lists.
-abbrev pub call_over : List Macro → Expander → BuiltIn → List Body → Paid Form
-call_over macros within b [] = fails (miscounted b)
-call_over macros within b (m ∷ args) = do
-  head ← head_of within b m
+-- m, then the lists, and what comes of them
+abbrev pub m_and_lists : Expander → BuiltIn → (Body → List Form → Paid Form) → List Body → Paid Form
+m_and_lists within b next [] = fails (miscounted b)
+m_and_lists within b next (e ∷ args) = do
+  m ← head_of within b e
   ls ← each (within (name_of b) false) args
-  over macros within b head ls
+  next m ls
 
 -- What a built-in macro gives. All but the six, `.splice` and those that call an m expand their arguments from left to right.
 abbrev pub own_result : List Macro → Expander → BuiltIn → Bool → List Body → Paid Form
@@ -289,9 +266,10 @@ own_result macros within own.Let in_splice args = call_let within own.Let false 
 own_result macros within own.LetStar in_splice args = call_let within own.LetStar true args
 own_result macros within own.Pmacro in_splice args = lift (stray_pmacro args)
 own_result macros within own.Splice in_splice args = spliced_list within args
-own_result macros within own.Map in_splice args = call_over macros within own.Map args
-own_result macros within own.ForEach in_splice args = call_over macros within own.ForEach args
-own_result macros within own.Apply in_splice args = call_over macros within own.Apply args
+own_result macros within own.Map in_splice args = m_and_lists within own.Map (mapped macros within own.Map []) args
+own_result macros within own.ForEach in_splice args =
+    m_and_lists within own.ForEach (mapped macros within own.ForEach (form.Symbol (codes "begin") ∷ [])) args
+own_result macros within own.Apply in_splice args = m_and_lists within own.Apply (applied macros within) args
 own_result macros within own.Iota in_splice args = each (within (name_of own.Iota) false) args >>= λ fs. lift (iota_of fs)
 own_result macros within b in_splice args = each (within (name_of b) false) args >>= λ fs. lift (ordinary b in_splice fs)
 

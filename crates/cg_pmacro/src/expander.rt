@@ -868,7 +868,7 @@ fn call_over(
     items: &[Body],
     left: &mut u64,
 ) -> Result<Value, Halt>
-    ensures { Gives (meant.call_over macros.now (meant.expanded macros.now depth) of items.now left.old) result left.new }
+    ensures { Gives (steps.call_over macros.now (meant.expanded macros.now depth) of items.now left.old) result left.new }
 {
     let Some(first) = items.first() else {
         return Err(miscounted(alloc, of));
@@ -880,7 +880,7 @@ fn call_over(
 
 /// The calls of the head on lists.
 #[cycle(expansion)]
-#[tactic(auto, using(crate::proofs::Rules::expansion_rules), unfolding(crate::specs::Expansion::over))]
+#[tactic(auto, using(crate::proofs::Rules::expansion_rules), unfolding(crate::specs::Steps::over))]
 #[inline(never)]
 fn over(
     alloc: Global,
@@ -891,7 +891,7 @@ fn over(
     args: &[Value],
     left: &mut u64,
 ) -> Result<Value, Halt>
-    ensures { Gives (meant.over macros.now (meant.expanded macros.now depth) of head.now args.now left.old) result left.new }
+    ensures { Gives (steps.over macros.now (meant.expanded macros.now depth) of head.now args.now left.old) result left.new }
 {
     may_call(alloc, macros, of, head, args)?;
     if of.is_apply() {
@@ -925,7 +925,7 @@ fn head_of(
 }
 
 /// Refuses a wrong count of lists, a head that can't be called, and lists that aren't.
-#[tactic(auto, using(crate::proofs::Rules::expansion_rules), unfolding(crate::specs::Expansion::over_checked))]
+#[tactic(auto, using(crate::proofs::Rules::expansion_rules), unfolding(crate::specs::Steps::over_checked))]
 fn may_call(
     alloc: Global,
     macros: &[Macro],
@@ -933,7 +933,7 @@ fn may_call(
     head: &Body,
     args: &[Value],
 ) -> Result<(), Halt>
-    ensures { Answers (meant.over_checked macros.now of head.now args.now) result }
+    ensures { Answers (steps.over_checked macros.now of head.now args.now) result }
 {
     let counted = if of.is_apply() {
         args.len() == 1
@@ -1012,7 +1012,7 @@ fn elements_of(form: &Form) -> &[Form]
 }
 
 #[cycle(expansion)]
-#[tactic(auto, using(crate::proofs::Rules::expansion_rules), unfolding(crate::specs::Expansion::applied))]
+#[tactic(auto, using(crate::proofs::Rules::expansion_rules), unfolding(crate::specs::Steps::applied))]
 #[inline(never)]
 fn apply(
     alloc: Global,
@@ -1022,7 +1022,7 @@ fn apply(
     args: &[Value],
     left: &mut u64,
 ) -> Result<Value, Halt>
-    ensures { Gives (meant.applied (meant.expanded macros.now depth) head.now args.now left.old) result left.new }
+    ensures { Gives (steps.applied (meant.expanded macros.now depth) head.now args.now left.old) result left.new }
 {
     let Some(list) = args.first() else {
         return Err(misfit(alloc, BuiltIn::Apply));
@@ -1075,7 +1075,7 @@ fn copies(alloc: Global, forms: &[Form]) -> Result<List<Form>, NoMemory>
 }
 
 #[cycle(expansion)]
-#[tactic(auto, using(crate::proofs::Rules::expansion_rules), unfolding(crate::specs::Expansion::mapped))]
+#[tactic(auto, using(crate::proofs::Rules::expansion_rules), unfolding(crate::specs::Steps::mapped))]
 #[inline(never)]
 fn map(
     alloc: Global,
@@ -1086,7 +1086,7 @@ fn map(
     args: &[Value],
     left: &mut u64,
 ) -> Result<Value, Halt>
-    ensures { Gives (meant.mapped (meant.expanded macros.now depth) of head.now args.now left.old) result left.new }
+    ensures { Gives (steps.mapped (meant.expanded macros.now depth) of head.now args.now left.old) result left.new }
 {
     let Some(list) = args.first() else {
         return Err(misfit(alloc, of));
@@ -1102,7 +1102,7 @@ fn map(
 
 /// What stands in front of the results.
 fn beginning(alloc: Global, of: BuiltIn) -> Result<List<Form>, NoMemory>
-    ensures { IfOk result (λ forms. forms ≡ meant.beginning of) }
+    ensures { IfOk result (λ forms. forms ≡ steps.beginning of) }
 {
     let mut forms = List::new(alloc);
     if of.is_for_each() {
