@@ -13,12 +13,13 @@ use Rattle.cg_pmacro.specs.declared.body.Macro.{Macro}
 use Rattle.cg_pmacro.specs.declared.built_in.BuiltIn.{BuiltIn}
 use Rattle.cg_pmacro.specs.declared.built_in.BuiltIn.TheVariants as own
 use Rattle.cg_pmacro.proofs.Names.{same_text_sym}
+use Rattle.cg_pmacro.proofs.Rules.{at_leaf}
 use Rattle.cg_pmacro.proofs.ExpandRules.{expanded_number, expanded_symbol, expanded_string, expanded_flag}
 use Rattle.cg_pmacro.specs.Outcome.{Answer, onward, choose, each, fault}
 use Rattle.cg_pmacro.specs.Sizes.{nodes, lists}
 use Rattle.cg_pmacro.specs.Shapes.{◌>>=◌, plain, plain_step, same_text, called, head_name, elements, pmacro_form, pmacro_head, macro_named, begins_with_dot, is_named}
 use Rattle.cg_pmacro.specs.BuiltIns.{name_of, first_named, built_in, all_built_ins}
-use Rattle.cg_pmacro.specs.Expansion.{Expander, listed, macro_call, other_list, named_kind, list_kind, layer_kind, kind_of, of_kind, charge, call_written, with_arguments, expanded}
+use Rattle.cg_pmacro.specs.Expansion.{Expander, listed, macro_call, other_list, named_kind, list_kind, layer_kind, kind_of, comes_to, charge, call_written, with_arguments, expanded}
 use Rattle.cg_pmacro.specs.Splitting.{first_name}
 use Rattle.cg_pmacro.specs.Laws.{CallLeaves, AtRest, heads_call, none, number, symbol, string, flag, list}
 
@@ -60,7 +61,7 @@ left_by within name formals b args left after f (Ok r) e h = of_body (call_writt
 pub call_law : (macros : List Macro) (k : ℕ) (inner : List ℕ) (in_splice : Bool) (call : Body) (name : List ℕ) (formals : List (List ℕ)) (b : Body) (args : List Body) (left after : ℕ) (f : Form) → kind_of macros call ≡ macro_call name formals b args → expanded macros (suc k) inner in_splice call left ≡ Ok (f, after) → CallLeaves (expanded macros k) name formals b args left f after
 unfolding expanded
 call_law macros k inner in_splice call name formals b args left after f e h =
-    left_by (expanded macros k) name formals b args left after f (each (expanded macros k name false) args left) refl (sym (ap (λ kind. of_kind macros (Some (expanded macros k)) inner in_splice kind left) e) ∙ h)
+    left_by (expanded macros k) name formals b args left after f (each (expanded macros k name false) args left) refl (sym (ap (λ kind. comes_to macros (expanded macros k) inner in_splice kind left) e) ∙ h)
 
 plain_number : (i : ℤ) → plain (form.Number i) ≡ Number i
 plain_number i = ap plain (sym (views.rolls-Number i)) ∙ fold-roll-Form Body plain_step (layer.Number i)
@@ -138,7 +139,7 @@ rest_kind : (macros : List Macro) (gs : List Form) → Heads gs → choose (firs
 unfolding list_kind
 rest_kind macros gs h head = rw h.0 (rw h.1 (kind_by macros (map plain gs) (first_name gs) head))
 
-rest_listed : (macros : List Macro) (within : Expander) (inner : List ℕ) (in_splice : Bool) (bs : List Body) (left : ℕ) (o : Option (List ℕ)) → choose o (heads_call macros) false ≡ false → of_kind macros (Some within) inner in_splice (other_list o bs) left ≡ listed (each (within inner false) bs) left
+rest_listed : (macros : List Macro) (within : Expander) (inner : List ℕ) (in_splice : Bool) (bs : List Body) (left : ℕ) (o : Option (List ℕ)) → choose o (heads_call macros) false ≡ false → comes_to macros within inner in_splice (other_list o bs) left ≡ listed (each (within inner false) bs) left
 rest_listed macros within inner in_splice bs left None head = refl
 rest_listed macros within inner in_splice bs left (Some s) head = rw (not_dotted macros s head) refl
 
@@ -151,7 +152,7 @@ at_rest none inner in_splice left = refl
 at_rest {macros} {n} (number {fs = fs} i rest) inner in_splice left =
     one_more (expanded macros n inner in_splice) (plain (form.Number i)) (map plain fs) (form.Number i) fs left (ap (λ b. expanded macros n inner in_splice b left) (plain_number i) ∙ expanded_number macros n inner in_splice i left) (at_rest rest inner in_splice left)
 at_rest {macros} {n} (symbol {fs = fs} s h rest) inner in_splice left =
-    one_more (expanded macros n inner in_splice) (plain (form.Symbol s)) (map plain fs) (form.Symbol s) fs left (ap (λ b. expanded macros n inner in_splice b left) (plain_symbol s) ∙ expanded_symbol macros n inner in_splice s left ∙ rw h refl) (at_rest rest inner in_splice left)
+    one_more (expanded macros n inner in_splice) (plain (form.Symbol s)) (map plain fs) (form.Symbol s) fs left (ap (λ b. expanded macros n inner in_splice b left) (plain_symbol s) ∙ expanded_symbol macros n inner in_splice s left ∙ rw h (at_leaf macros n [] false (form.Symbol s) left)) (at_rest rest inner in_splice left)
 at_rest {macros} {n} (string {fs = fs} s rest) inner in_splice left =
     one_more (expanded macros n inner in_splice) (plain (form.Str s)) (map plain fs) (form.Str s) fs left (ap (λ b. expanded macros n inner in_splice b left) (plain_string s) ∙ expanded_string macros n inner in_splice s left) (at_rest rest inner in_splice left)
 at_rest {macros} {n} (flag {fs = fs} b rest) inner in_splice left =
@@ -159,7 +160,7 @@ at_rest {macros} {n} (flag {fs = fs} b rest) inner in_splice left =
 at_rest {macros} (list {n = n} {gs = gs} {fs = fs} head inside rest) inner in_splice left =
     let read = ap (λ b. expanded macros (suc n) inner in_splice b left) (plain_items gs) in
     let kind : kind_of macros (Items (map plain gs)) ≡ other_list (first_name gs) (map plain gs) = ap (layer_kind macros) (outs-Items (map plain gs)) ∙ rest_kind macros gs (heads inside) head in
-    let opened = ap (λ k. of_kind macros (Some (expanded macros n)) inner in_splice k left) kind in
+    let opened = ap (λ k. comes_to macros (expanded macros n) inner in_splice k left) kind in
     let whole = rest_listed macros (expanded macros n) inner in_splice (map plain gs) left (first_name gs) head in
     one_more (expanded macros (suc n) inner in_splice) (plain (form.Items gs)) (map plain fs) (form.Items gs) fs left (read ∙ opened ∙ whole ∙ rw (at_rest inside inner false left) refl) (at_rest rest inner in_splice left)
 

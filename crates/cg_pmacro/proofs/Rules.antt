@@ -1,5 +1,5 @@
 -- The equations of the meanings that recurse on how deep lists may stand.
-use Rattle.std.proofs.Common.{◌≡◌, ◌≢◌, ℕ, zero, suc, ◌+◌, ◌-◌, Bool, true, false, ℤ, List, [], ◌∷◌, Option, Some, None, Result, Ok, Err, ap, refl, sym, arith}
+use Rattle.std.proofs.Common.{◌≡◌, ◌≢◌, ℕ, zero, suc, ◌+◌, ◌-◌, ◌==◌, ◌&&◌, nat_lt, length, codes, if◌then◌else◌, Bool, true, false, ℤ, List, [], ◌∷◌, Option, Some, None, Result, Ok, Err, ap, refl, sym, arith}
 use Rattle.std.specs.List.{range_with_len, cons_option}
 use Rattle.std.proofs.lemmas.Grind.{common_steps}
 use Rattle.cg_base.specs.declared.form.Form.{Form}
@@ -8,20 +8,23 @@ use Rattle.cg_pmacro.specs.declared.fault.Fault.{Fault}
 use Rattle.cg_pmacro.specs.declared.fault.Halt.{Halt}
 use Rattle.cg_pmacro.specs.declared.fault.Halt.TheVariants.{Faulty, NoMemory}
 use Rattle.cg_pmacro.specs.declared.body.Body.{Body}
-use Rattle.cg_pmacro.specs.declared.body.Body.TheViews.{out-Body, outs-Quoted, outs-Number, outs-Symbol, outs-Str, outs-Flag, outs-Items}
+use Rattle.cg_pmacro.specs.declared.body.Body.TheViews.{outs-Quoted, outs-Number, outs-Symbol, outs-Str, outs-Flag, outs-Items}
 use Rattle.cg_pmacro.specs.declared.body.Body.TheVariants.{Quoted, Number, Symbol, Str, Flag, Items}
 use Rattle.cg_pmacro.specs.declared.body.Binding.{Binding}
 use Rattle.cg_pmacro.specs.declared.body.Macro.{Macro}
 use Rattle.cg_pmacro.specs.declared.built_in.BuiltIn.TheVariants as own
-use Rattle.cg_pmacro.specs.Outcome.{Answer, Paid, ◌>>=◌, onward, choose, each, lift}
+use Rattle.cg_pmacro.specs.Outcome.{Answer, Paid, ◌>>=◌, onward, choose, each, fails, lift}
 use Rattle.cg_pmacro.specs.Reports.{Answers, Gives, Halts, IsHalt}
-use Rattle.cg_pmacro.specs.Steps.{further, affordable, call_built_in, hiding}
+use Rattle.cg_pmacro.specs.Expansion as meant
+use Rattle.cg_pmacro.specs.Steps as steps
+use Rattle.std.proofs.lemmas.Bool.Decides.{nat_tests}
+use Rattle.cg_pmacro.specs.Steps.{over, over_checked, at_depth, affordable, call_built_in, hiding}
 use Rattle.cg_pmacro.specs.declared.built_in.BuiltIn.{BuiltIn}
 use Rattle.cg_pmacro.specs.Shapes.{head_name, macro_named, same_text, is_among}
-use Rattle.cg_pmacro.specs.BuiltIns.{name_of, iota_of}
+use Rattle.cg_pmacro.specs.BuiltIns.{name_of, misfit, iota_of}
 use Rattle.cg_pmacro.specs.Replacing.{Table, without, replaced_to, replaced_layer, looked_up, elements_replaced}
 use Rattle.cg_pmacro.proofs.Fronts.{in_front, none_in_front, one_in_front, more_in_front}
-use Rattle.cg_pmacro.specs.Expansion.{Expander, itself, macro_symbol, symbol_kind, kind_of, of_kind, without_arguments, own_called, expanded, charge, charged, call_of, row, results}
+use Rattle.cg_pmacro.specs.Expansion.{Expander, Kind, too_deep, comes_to, itself, macro_symbol, symbol_kind, kind_of, without_arguments, own_called, expanded, charge, charged, call_of, row, results}
 
 pub replaced_symbol : (k : ℕ) (t : Table) (s : List ℕ) → replaced_to k t (Symbol s) ≡ looked_up t s
 replaced_symbol zero t s = ap (replaced_layer None t (Symbol s)) (outs-Symbol s)
@@ -51,26 +54,32 @@ replaced_items (suc k) t bs h =
 
 pub ruleset replacing_rules = (common_steps, replaced_symbol, replaced_quoted, replaced_number, replaced_string, replaced_flag, replaced_items)
 
-pub expanded_out : (macros : List Macro) (k : ℕ) (inner : List ℕ) (spliced : Bool) (b : Body) (left : ℕ) → expanded macros k inner spliced b left ≡ of_kind macros (further macros k) inner spliced (kind_of macros b) left
+pub expanded_out : (macros : List Macro) (k : ℕ) (inner : List ℕ) (spliced : Bool) (b : Body) (left : ℕ) → expanded macros k inner spliced b left ≡ at_depth macros k inner spliced (kind_of macros b) left
 unfolding expanded
 expanded_out macros zero inner spliced b left = refl
 expanded_out macros (suc k) inner spliced b left = refl
 
--- Where a symbol stands doesn't matter, nor whether a list that isn't a call is an argument of `.splice`.
-pub symbol_anywhere : (macros : List Macro) (deeper : Option Expander) (inner : List ℕ) (spliced : Bool) (s : List ℕ) (left : ℕ) → of_kind macros deeper inner spliced (symbol_kind macros s) left ≡ of_kind macros deeper [] false (symbol_kind macros s) left
-symbol_anywhere macros deeper inner spliced s left = by_body (without_arguments (macro_named macros s))
+pub at_leaf : (macros : List Macro) (k : ℕ) (inner : List ℕ) (spliced : Bool) (f : Form) (left : ℕ) → at_depth macros k inner spliced (itself f) left ≡ Ok (f, left)
+at_leaf macros zero inner spliced f left = refl
+at_leaf macros (suc k) inner spliced f left = refl
+
+pub at_zero : (macros : List Macro) (k : ℕ) (inner : List ℕ) (spliced : Bool) (kind : Kind) (left : ℕ) → k ≡ 0 → at_depth macros k inner spliced kind left ≡ too_deep inner kind left
+at_zero macros zero inner spliced kind left h = refl
+at_zero macros (suc k) inner spliced kind left h = absurd (omega arith)
+
+pub at_more : (macros : List Macro) (k : ℕ) (inner : List ℕ) (spliced : Bool) (kind : Kind) (left : ℕ) → k ≢ 0 → at_depth macros k inner spliced kind left ≡ comes_to macros (expanded macros (k - 1)) inner spliced kind left
+at_more macros zero inner spliced kind left h = absurd (h refl)
+at_more macros (suc k) inner spliced kind left h = let e : suc k - 1 ≡ k = omega arith in rw e refl
+
+-- Where a symbol stands doesn't matter.
+pub symbol_anywhere : (macros : List Macro) (k : ℕ) (inner : List ℕ) (spliced : Bool) (s : List ℕ) (left : ℕ) → at_depth macros k inner spliced (symbol_kind macros s) left ≡ at_depth macros k [] false (symbol_kind macros s) left
+symbol_anywhere macros k inner spliced s left = by_body k (without_arguments (macro_named macros s))
   where
-    by_body : (b : Option Body) → of_kind macros deeper inner spliced (choose b (macro_symbol s) (itself (form.Symbol s))) left ≡ of_kind macros deeper [] false (choose b (macro_symbol s) (itself (form.Symbol s))) left
-    by_body None = refl
-    by_body (Some b) = refl
-
-pub further_none : (macros : List Macro) (k : ℕ) → k ≡ 0 → further macros k ≡ None
-further_none macros zero h = refl
-further_none macros (suc k) h = absurd (omega arith)
-
-pub further_some : (macros : List Macro) (k : ℕ) → k ≢ 0 → further macros k ≡ Some (expanded macros (k - 1))
-further_some macros zero h = absurd (h refl)
-further_some macros (suc k) h = let e : suc k - 1 ≡ k = omega arith in rw e refl
+    by_body : (n : ℕ) (b : Option Body) → at_depth macros n inner spliced (choose b (macro_symbol s) (itself (form.Symbol s))) left ≡ at_depth macros n [] false (choose b (macro_symbol s) (itself (form.Symbol s))) left
+    by_body zero None = refl
+    by_body zero (Some b) = refl
+    by_body (suc n) None = refl
+    by_body (suc n) (Some b) = refl
 
 pub halts_of : (A : Type 0) (x : Fault) (h : Halt) → IsHalt x h → Halts {A = A} (Err x) h
 halts_of A x NoMemory e = tt
@@ -104,13 +113,49 @@ charged_iota name args made left = of_args (args left)
     of_args (Ok r) = charged_lifted name r.1 (made r.0)
     of_args (Err x) = refl
 
+-- What is made of m and lists once they are tested is what is made of them with the tests.
+abbrev passed : Bool → Fault → Answer (Unit {0})
+passed fit x = if fit then Ok tt else Err x
+
+tested : (fit : Bool) (x : Fault) (run : Paid Form) (left : ℕ) → (if fit then run else fails x) left ≡ (lift (passed fit x) >>= λ _. run) left
+tested true x run left = refl
+tested false x run left = refl
+
+some_lists : (l : Form) (ls : List Form) → nat_lt 0 (length (l ∷ ls)) ≡ true
+some_lists l ls = grind (arith, nat_tests)
+
+one_list : (l : Form) → (length (l ∷ []) == 1) ≡ true
+one_list l = grind (arith, nat_tests)
+
+more_lists : (l k : Form) (ls : List Form) → (length (l ∷ k ∷ ls) == 1) ≡ false
+more_lists l k ls = grind (arith, nat_tests)
+
+over_map : (macros : List Macro) (within : Expander) (m : Body) (ls : List Form) (left : ℕ) → meant.mapped macros within own.Map [] m ls left ≡ over macros within own.Map m ls left
+unfolding over over_checked steps.mapped
+over_map macros within m [] left = refl
+over_map macros within m (l ∷ ls) left = rw (some_lists l ls) (tested (meant.is_callable macros m && meant.are_lists (l ∷ ls)) (misfit own.Map) (steps.mapped within own.Map m (l ∷ ls)) left)
+
+over_for_each : (macros : List Macro) (within : Expander) (m : Body) (ls : List Form) (left : ℕ) → meant.mapped macros within own.ForEach (form.Symbol (codes "begin") ∷ []) m ls left ≡ over macros within own.ForEach m ls left
+unfolding over over_checked steps.mapped
+over_for_each macros within m [] left = refl
+over_for_each macros within m (l ∷ ls) left = rw (some_lists l ls) (tested (meant.is_callable macros m && meant.are_lists (l ∷ ls)) (misfit own.ForEach) (steps.mapped within own.ForEach m (l ∷ ls)) left)
+
+over_apply : (macros : List Macro) (within : Expander) (m : Body) (ls : List Form) (left : ℕ) → meant.applied macros within m ls left ≡ over macros within own.Apply m ls left
+unfolding over over_checked steps.applied
+over_apply macros within m [] left = refl
+over_apply macros within m (l ∷ []) left = rw (one_list l) (tested (meant.is_callable macros m && meant.are_lists (l ∷ [])) (misfit own.Apply) (steps.applied within m (l ∷ [])) left)
+over_apply macros within m (l ∷ k ∷ ls) left = rw (more_lists l k ls) refl
+
 -- A call of a built-in by its manner gives what the built-in gives.
 pub own_called_by : (macros : List Macro) (within : Expander) (b : BuiltIn) (spliced : Bool) (args : List Body) (left : ℕ) → own_called macros within b spliced args left ≡ charged (name_of b) (call_built_in macros within b spliced args) left
 unfolding own_called
 own_called_by macros within own.Iota spliced args left = sym (charged_iota (name_of own.Iota) (each (within (name_of own.Iota) false) args) iota_of left)
+own_called_by macros within own.Map spliced args left = λ i. charged (name_of own.Map) (meant.m_and_lists within own.Map (λ m ls n. over_map macros within m ls n i) args) left
+own_called_by macros within own.ForEach spliced args left = λ i. charged (name_of own.ForEach) (meant.m_and_lists within own.ForEach (λ m ls n. over_for_each macros within m ls n i) args) left
+own_called_by macros within own.Apply spliced args left = λ i. charged (name_of own.Apply) (meant.m_and_lists within own.Apply (λ m ls n. over_apply macros within m ls n i) args) left
 own_called_by macros within b spliced args left = refl
 
-pub ruleset expansion_rules = (common_steps, none_in_front, one_in_front, more_in_front, results_none, results_more, expanded_out, further_none, further_some, halts_of, gives_lifted, own_called_by)
+pub ruleset expansion_rules = (common_steps, none_in_front, one_in_front, more_in_front, results_none, results_more, expanded_out, at_leaf, at_zero, at_more, halts_of, gives_lifted, own_called_by)
 
 -- Names that are hidden one after another are hidden together.
 hidden_first : (b : Binding) (table : Table) (name : List ℕ) (names : List (List ℕ)) (here there : Bool) → same_text name b.name ≡ here → is_among b.name names ≡ there → without (without table (name ∷ [])) names ≡ without table (name ∷ names) → without (without (b ∷ table) (name ∷ [])) names ≡ without (b ∷ table) (name ∷ names)

@@ -32,15 +32,12 @@ abbrev pub misdefined_name : List Body → List ℕ
 misdefined_name (d ∷ named ∷ bs) = name_or_word (defined_name named)
 misdefined_name _ = codes "define-pmacro"
 
-abbrev pub with_formals : List ℕ → Option (List (List ℕ)) → Body → Macro
-with_formals name formals b = record { name = name; formals = formals; body = b }
-
 -- `(NAME ARG ..)` defines a macro with arguments, also where the list has the name alone; `NAME` one without.
 abbrev pub macro_of : List ℕ → Body → Body → Answer Macro
 macro_of name named b =
     choose (elements named)
-    (λ bs. choose (names_of (drop 1 bs)) (λ names. Ok (with_formals name (Some names) b)) (Err (fault 202 name)))
-    (Ok (with_formals name None b))
+    (λ bs. choose (names_of (drop 1 bs)) (λ names. Ok (record { name = name; formals = Some names; body = b })) (Err (fault 202 name)))
+    (Ok (record { name = name; formals = None; body = b }))
 
 -- No two macros have one name, and none has one that begins with a dot.
 abbrev pub defined_as : List Macro → Body → Body → Answer Macro

@@ -1,5 +1,5 @@
--- What a form expands to (docs/LANGUAGE.md, "Macros"): cost, depth, calls of macros, calls of the built-in macros, and the
--- expansion of a form, which leads back to them.
+-- What a form expands to (docs/LANGUAGE.md, "Macros"): the cost of a call, calls of macros, each built-in macro, and then what
+-- a form is, what it comes to, and how deep it may stand. How the forms within it expand is a parameter, `within`, up to the last definition.
 use Rattle.std.specs.Prelude.{ℕ, zero, suc, ◌+◌, ◌-◌, ◌==◌, nat_lt, Bool, true, false, not, ◌&&◌, ◌||◌, List, [], ◌∷◌, ◌++◌, map, length, drop, slice_get, filter_map, Option, Some, None, is_some, unwrap_or, Ok, Err, codes, if◌then◌else◌}
 use Rattle.std.specs.List.{list_all, list_any, range_with_len}
 use Rattle.cg_base.specs.declared.form.Form.{Form}
@@ -14,11 +14,11 @@ use Rattle.cg_pmacro.specs.declared.built_in.BuiltIn.{BuiltIn}
 use Rattle.cg_pmacro.specs.declared.built_in.BuiltIn.TheVariants as own
 use Rattle.cg_pmacro.specs.Outcome.{Answer, Paid, ◌>>=◌, pure, fails, lift, each, each_joined, fault, choose}
 use Rattle.cg_pmacro.specs.Sizes.{nodes, lists}
-use Rattle.cg_pmacro.specs.Shapes.{same_form, written, called, head_name, is_named, own_symbol, elements, form_elements, is_list, pmacro_form, pmacro_head, pair_of, binding, names_of, macro_named, begins_with_dot}
+use Rattle.cg_pmacro.specs.Shapes.{same_form, written, called, head_name, is_named, own_symbol, elements, form_elements, is_list, pmacro_form, pmacro_head, pair_of, binding, formal_names, macro_named, begins_with_dot}
 use Rattle.cg_pmacro.specs.BuiltIns.{name_of, built_in, is_lazy, miscounted, misfit, is_false, iota_of, ordinary}
 use Rattle.cg_pmacro.specs.Replacing.{Table, replaced, without}
 
--- How a form expands: within which macro or built-in macro, and whether it is an argument of `.splice`.
+-- How a form expands: the innermost macro or built-in macro around it, and whether it is an argument of `.splice`.
 abbrev pub Expander : Type 0
 Expander = List ℕ → Bool → Body → Paid Form
 
@@ -32,11 +32,6 @@ charge name f left =
 -- The cost is charged once the result is known.
 abbrev pub charged : List ℕ → Paid Form → Paid Form
 charged name call = call >>= charge name
-
--- How forms one deeper expand, where they may stand so deep.
-abbrev pub entered : Option Expander → List ℕ → Paid Expander
-entered None name = fails (fault 204 name)
-entered (Some within) name = pure within
 
 -- the list of several results
 abbrev pub listed : Paid (List Form) → Paid Form
@@ -55,14 +50,13 @@ abbrev pub call_written : Expander → List ℕ → List (List ℕ) → Body →
 call_written within name formals b args =
     if length args == length formals then within name false (replaced (bindings formals args) b) else fails (fault 201 name)
 
--- A call of a macro expands its arguments from left to right, and then the body with these.
+-- A call of a macro expands its arguments from left to right, and then the body with these in it.
 abbrev pub macro_called : Expander → List ℕ → List (List ℕ) → Body → List Body → Paid Form
 macro_called within name formals b args = charged name (each (within name false) args >>= call_written within name formals b)
 
 -- `(.pmacro (arg ..) body)`: its formals, which are distinct symbols, and its body
 unfoldable pub pmacro : List Body → Answer (List (List ℕ) × Body)
-pmacro (head ∷ formals ∷ b ∷ []) =
-    choose (elements formals) (λ bs. choose (names_of bs) (λ names. Ok (names, b)) (Err (misfit own.Pmacro))) (Err (misfit own.Pmacro))
+pmacro (head ∷ formals ∷ b ∷ []) = choose (formal_names formals) (λ names. Ok (names, b)) (Err (misfit own.Pmacro))
 pmacro _ = Err (miscounted own.Pmacro)
 
 -- A `.pmacro` form in the place of a head is called, and isn't expanded.
@@ -82,41 +76,47 @@ chosen within b taking = do
   taken ← taking
   choose taken (within (name_of b) false) (pure (form.Items []))
 
-abbrev pub branch : List Body → Bool → Answer (Option Body)
-branch (a ∷ []) fails = Ok (if fails then None else Some a)
-branch (a ∷ b ∷ []) fails = Ok (Some (if fails then b else a))
-branch _ fails = Err (miscounted own.If)
+abbrev pub branch : List Body → Form → Answer (Option Body)
+branch (a ∷ []) c = Ok (if is_false c then None else Some a)
+branch (a ∷ b ∷ []) c = Ok (Some (if is_false c then b else a))
+branch _ c = Err (miscounted own.If)
 
 -- `(.if c a [b])`: a where c isn't `#f`, else b
 abbrev pub take_if : Expander → List Body → Paid (Option Body)
 take_if within [] = fails (miscounted own.If)
 take_if within (c ∷ branches) = do
   f ← within (codes ".if") false c
-  lift (branch branches (is_false f))
+  lift (branch branches f)
 
 -- the arm is the last, headed by the symbol `else`
 abbrev pub is_else : Body → List Body → Bool
 is_else c [] = is_named (codes "else") (own_symbol c)
 is_else c (_ ∷ _) = false
 
+-- this arm where its c isn't `#f`, else what the rest take
+abbrev pub arm_or : Expander → Body × Body → Paid (Option Body) → Paid (Option Body)
+arm_or within arm rest = do
+  c ← within (codes ".cond") false arm.0
+  if is_false c then rest else pure (Some arm.1)
+
 -- the first arm whose c isn't `#f`, up to one that isn't a list of two
 abbrev pub first_arm : Expander → List Body → Paid (Option Body)
 first_arm within [] = pure None
 first_arm within (arm ∷ arms) =
     choose (pair_of arm)
-    (λ p. if is_else p.0 arms then pure (Some p.1) else (within (codes ".cond") false p.0 >>= λ f. if is_false f then first_arm within arms else pure (Some p.1)))
+    (λ p. if is_else p.0 arms then pure (Some p.1) else arm_or within p (first_arm within arms))
     (pure None)
 
 abbrev pub is_pair : Body → Bool
 is_pair b = is_some (pair_of b)
 
--- `(.cond (c e) .. [(else e)])`: the first e whose c isn't `#f`
+-- `(.cond (c e) .. [(else e)])`: the first e whose c isn't `#f`. Each arm is a list of two, also one that isn't reached.
 abbrev pub take_cond : Expander → List Body → Paid (Option Body)
 take_cond within arms = do
   taken ← first_arm within arms
   if list_all is_pair arms then pure taken else fails (misfit own.Cond)
 
--- an arm is a list of two, whose first is a list of values or, in the last, `else`
+-- Each arm of `.case` is a list of two, whose first is a list of values or, in the last, `else`.
 abbrev pub are_arms : List Body → Bool
 are_arms [] = true
 are_arms (arm ∷ arms) = choose (pair_of arm) (λ p. is_else p.0 arms || is_list p.0) false && are_arms arms
@@ -221,38 +221,6 @@ call_of m args = Items (m ∷ map Quoted args)
 abbrev pub row : ℕ → List Form → List Form
 row k ls = filter_map (λ l. slice_get (elements_of l) k) ls
 
-abbrev pub is_for_each : BuiltIn → Bool
-is_for_each own.ForEach = true
-is_for_each _ = false
-
-abbrev pub is_apply : BuiltIn → Bool
-is_apply own.Apply = true
-is_apply _ = false
-
--- what stands in front of the results: the symbol `begin`, where they are to be top forms
-abbrev pub beginning : BuiltIn → List Form
-beginning b = if is_for_each b then form.Symbol (codes "begin") ∷ [] else []
-
--- the results of m on the lists' elements, place by place
-abbrev pub results : Expander → BuiltIn → Body → List Form → List ℕ → Paid (List Form)
-results within b m ls places = each (λ k. within (name_of b) false (call_of m (row k ls))) places
-
--- `(.map m l ..)` and `(.for-each m l ..)`: the list of m's results on the lists' elements
-unfoldable pub mapped : Expander → BuiltIn → Body → List Form → Paid Form
-mapped within b m [] = fails (misfit b)
-mapped within b m (l ∷ ls) = do
-  fs ← results within b m (l ∷ ls) (range_with_len 0 (length (elements_of l)))
-  pure (form.Items (beginning b ++ fs))
-
--- `(.apply m l)`: m called with the elements of l
-unfoldable pub applied : Expander → Body → List Form → Paid Form
-applied within m [] = fails (misfit own.Apply)
-applied within m (l ∷ ls) = within (codes ".apply") false (call_of m (elements_of l))
-
--- how many lists they take
-abbrev pub takes_lists : BuiltIn → ℕ → Bool
-takes_lists b n = if is_apply b then n == 1 else nat_lt 0 n
-
 abbrev pub is_list_of : ℕ → Form → Bool
 is_list_of n f = choose (form_elements f) (λ fs. length fs == n) false
 
@@ -261,24 +229,33 @@ abbrev pub are_lists : List Form → Bool
 are_lists [] = true
 are_lists (l ∷ ls) = choose (form_elements l) (λ fs. list_all (is_list_of (length fs)) (l ∷ ls)) false
 
--- E201 comes before E202.
-unfoldable pub over_checked : List Macro → BuiltIn → Body → List Form → Answer (Unit {0})
-over_checked macros b m args =
-    if takes_lists b (length args) then if is_callable macros m && are_lists args then Ok tt else Err (misfit b)
-    else Err (miscounted b)
+-- the results of m on the lists' elements, place by place
+abbrev pub results : Expander → BuiltIn → Body → List Form → List ℕ → Paid (List Form)
+results within b m ls places = each (λ k. within (name_of b) false (call_of m (row k ls))) places
 
-unfoldable pub over : List Macro → Expander → BuiltIn → Body → List Form → Paid Form
-over macros within b m args = do
-  _ ← lift (over_checked macros b m args)
-  if is_apply b then applied within m args else mapped within b m args
+-- `(.map m l ..)`: the list of m's results on the lists' elements. That of `(.for-each m l ..)` has the symbol `begin` in front.
+-- A wrong count comes before an argument that isn't of its kind.
+abbrev pub mapped : List Macro → Expander → BuiltIn → List Form → Body → List Form → Paid Form
+mapped macros within b front m [] = fails (miscounted b)
+mapped macros within b front m (l ∷ ls) =
+    if is_callable macros m && are_lists (l ∷ ls)
+    then (results within b m (l ∷ ls) (range_with_len 0 (length (elements_of l))) >>= λ fs. pure (form.Items (front ++ fs)))
+    else fails (misfit b)
 
--- `.map`, `.for-each` and `.apply` expand m and their lists.
-abbrev pub call_over : List Macro → Expander → BuiltIn → List Body → Paid Form
-call_over macros within b [] = fails (miscounted b)
-call_over macros within b (m ∷ args) = do
-  head ← head_of within b m
+-- `(.apply m l)`: m called with the elements of l
+abbrev pub applied : List Macro → Expander → Body → List Form → Paid Form
+applied macros within m (l ∷ []) =
+    if is_callable macros m && are_lists (l ∷ []) then within (codes ".apply") false (call_of m (elements_of l))
+    else fails (misfit own.Apply)
+applied macros within m ls = fails (miscounted own.Apply)
+
+-- m, then the lists, and what comes of them
+abbrev pub m_and_lists : Expander → BuiltIn → (Body → List Form → Paid Form) → List Body → Paid Form
+m_and_lists within b next [] = fails (miscounted b)
+m_and_lists within b next (e ∷ args) = do
+  m ← head_of within b e
   ls ← each (within (name_of b) false) args
-  over macros within b head ls
+  next m ls
 
 -- What a built-in macro gives. All but the six, `.splice` and those that call an m expand their arguments from left to right.
 abbrev pub own_result : List Macro → Expander → BuiltIn → Bool → List Body → Paid Form
@@ -289,9 +266,10 @@ own_result macros within own.Let in_splice args = call_let within own.Let false 
 own_result macros within own.LetStar in_splice args = call_let within own.LetStar true args
 own_result macros within own.Pmacro in_splice args = lift (stray_pmacro args)
 own_result macros within own.Splice in_splice args = spliced_list within args
-own_result macros within own.Map in_splice args = call_over macros within own.Map args
-own_result macros within own.ForEach in_splice args = call_over macros within own.ForEach args
-own_result macros within own.Apply in_splice args = call_over macros within own.Apply args
+own_result macros within own.Map in_splice args = m_and_lists within own.Map (mapped macros within own.Map []) args
+own_result macros within own.ForEach in_splice args =
+    m_and_lists within own.ForEach (mapped macros within own.ForEach (form.Symbol (codes "begin") ∷ [])) args
+own_result macros within own.Apply in_splice args = m_and_lists within own.Apply (applied macros within) args
 own_result macros within own.Iota in_splice args = each (within (name_of own.Iota) false) args >>= λ fs. lift (iota_of fs)
 own_result macros within b in_splice args = each (within (name_of b) false) args >>= λ fs. lift (ordinary b in_splice fs)
 
@@ -345,14 +323,6 @@ layer_kind macros (body.Items bs) = list_kind macros bs
 abbrev pub kind_of : List Macro → Body → Kind
 kind_of macros b = layer_kind macros (out-Body b)
 
--- E204 has the name of the macro, and at a list that isn't a call that of the innermost one around.
-abbrev pub entry_name : List ℕ → Kind → List ℕ
-entry_name inner (macro_symbol name b) = name
-entry_name inner (macro_call name formals b args) = name
-entry_name inner (pmacro_call form args) = codes ".pmacro"
-entry_name inner (own_call b args) = name_of b
-entry_name inner _ = inner
-
 -- A call comes to what is called, and a symbol to the expansion of its body, each with its cost. A list that isn't a call is
 -- the list of the expansions of its elements, from left to right; its head may not begin with a dot.
 abbrev pub comes_to : List Macro → Expander → List ℕ → Bool → Kind → Paid Form
@@ -365,14 +335,18 @@ comes_to macros within inner in_splice (other_list None bs) = listed (each (with
 comes_to macros within inner in_splice (other_list (Some name) bs) =
     if begins_with_dot name then fails (fault 207 name) else listed (each (within inner false) bs)
 
--- The depth at entry comes before all else.
-abbrev pub of_kind : List Macro → Option Expander → List ℕ → Bool → Kind → Paid Form
-of_kind macros deeper inner in_splice (itself f) = pure f
-of_kind macros deeper inner in_splice kind = do
-  within ← entered deeper (entry_name inner kind)
-  comes_to macros within inner in_splice kind
+-- Where nothing may stand deeper, only a form that is itself expands. The fault has the name of the macro, and in a list that
+-- isn't a call that of the innermost one around it.
+abbrev pub too_deep : List ℕ → Kind → Paid Form
+too_deep inner (itself f) = pure f
+too_deep inner (macro_symbol name b) = fails (fault 204 name)
+too_deep inner (macro_call name formals b args) = fails (fault 204 name)
+too_deep inner (pmacro_call form args) = fails (fault 204 (codes ".pmacro"))
+too_deep inner (own_call b args) = fails (fault 204 (name_of b))
+too_deep inner (other_list name bs) = fails (fault 204 inner)
 
--- What a form expands to, where lists and symbols that expand may still stand so deep one within another.
+-- What a form expands to, where lists, and symbols that name a macro without arguments, may still stand so deep one within
+-- another. The fault of the depth comes before all others.
 unfoldable pub expanded : List Macro → ℕ → Expander
-expanded macros zero inner in_splice b = of_kind macros None inner in_splice (kind_of macros b)
-expanded macros (suc k) inner in_splice b = of_kind macros (Some (expanded macros k)) inner in_splice (kind_of macros b)
+expanded macros zero inner in_splice b = too_deep inner (kind_of macros b)
+expanded macros (suc k) inner in_splice b = comes_to macros (expanded macros k) inner in_splice (kind_of macros b)

@@ -2,8 +2,8 @@
 pub mod Outcome
 pub mod Sizes
 pub mod Shapes
-pub mod BuiltIns
 pub mod Replacing
+pub mod BuiltIns
 pub mod Expansion
 pub mod Splitting
 pub mod Definitions

@@ -144,6 +144,10 @@ names_of (b ∷ bs) = do
   names ← names_of bs
   if is_among name names then None else Some (name ∷ names)
 
+-- the names in a list of formals
+abbrev pub formal_names : Body → Option (List (List ℕ))
+formal_names b = elements b >>= names_of
+
 -- the macro of that name
 abbrev pub macro_named : List Macro → List ℕ → Option Macro
 macro_named macros name = find (λ m. same_text m.name name) macros

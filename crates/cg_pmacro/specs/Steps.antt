@@ -1,13 +1,12 @@
 -- What the crate's private functions say of their steps. The meaning of expansion doesn't need it.
-use Rattle.std.specs.Prelude.{◌≡◌, ℕ, zero, suc, ◌+◌, nat_lt, Bool, true, false, List, [], ◌∷◌, ◌++◌, drop, Option, Some, None, Result, Ok, Err, codes, if◌then◌else◌}
+use Rattle.std.specs.Prelude.{◌≡◌, ℕ, zero, suc, ◌+◌, ◌==◌, ◌&&◌, nat_lt, length, Bool, true, false, List, [], ◌∷◌, ◌++◌, Option, Some, None, Result, Ok, Err, codes, if◌then◌else◌}
 use Rattle.cg_base.specs.declared.form.Form.{Form}
 use Rattle.cg_base.specs.declared.form.Form.TheVariants as form
+use Rattle.std.specs.List.{range_with_len}
 use Rattle.cg_base.specs.declared.form.Top.{Top}
 use Rattle.cg_base.specs.declared.refusal.Stop.{Stop}
 use Rattle.cg_base.specs.declared.refusal.Stop.TheVariants as stop
 use Rattle.cg_pmacro.specs.declared.body.Body.{Body}
-use Rattle.cg_pmacro.specs.declared.body.Body.TheOpen as body
-use Rattle.cg_pmacro.specs.declared.body.Body.TheOpen.{Body-F}
 use Rattle.cg_pmacro.specs.declared.body.Macro.{Macro}
 use Rattle.cg_pmacro.specs.declared.built_in.BuiltIn.{BuiltIn}
 use Rattle.cg_pmacro.specs.declared.built_in.BuiltIn.TheVariants as own
@@ -16,13 +15,12 @@ use Rattle.cg_pmacro.specs.declared.built_in.Manner.TheVariants as way
 use Rattle.cg_pmacro.specs.declared.fault.Fault.{Fault}
 use Rattle.cg_pmacro.specs.declared.fault.Halt.{Halt}
 use Rattle.cg_pmacro.specs.declared.fault.Halt.TheVariants.{Faulty, NoMemory}
-use Rattle.cg_pmacro.specs.Outcome.{Answer, Paid, Run, ◌>>=◌, choose, fault, fails, lift, each, pure}
+use Rattle.cg_pmacro.specs.Outcome.{Answer, Paid, Run, ◌>>=◌, fault, pure, fails, lift, each}
 use Rattle.cg_pmacro.specs.Reports.{Halts}
 use Rattle.cg_pmacro.specs.Sizes.{nodes}
-use Rattle.cg_pmacro.specs.BuiltIns.{name_of, built_in, iota_of, ordinary}
-use Rattle.cg_pmacro.specs.Shapes.{head_name, pmacro_head, macro_named, begins_with_dot}
+use Rattle.cg_pmacro.specs.BuiltIns.{name_of, miscounted, misfit, iota_of, ordinary}
 use Rattle.cg_pmacro.specs.Replacing.{Table, without}
-use Rattle.cg_pmacro.specs.Expansion.{Expander, entered, charged, listed, macro_called, call_pmacro, with_arguments, without_arguments, expanded, chosen, take_if, take_cond, take_case, call_let, stray_pmacro, call_over, spliced_list, own_result}
+use Rattle.cg_pmacro.specs.Expansion.{Expander, Kind, too_deep, comes_to, expanded, chosen, take_if, take_cond, take_case, call_let, stray_pmacro, is_callable, are_lists, results, call_of, elements_of, m_and_lists, spliced_list}
 use Rattle.cg_pmacro.specs.Splitting.{split_to, nothing}
 use Rattle.cg_pmacro.specs.Tops.{State, state, refusal, top_to, no_forms}
 
@@ -40,10 +38,10 @@ abbrev pub stopped : {A : Type 0} → Top → Result A Halt → Result A Stop
 stopped t (Ok a) = Ok a
 stopped t (Err h) = Err (stop_of t h)
 
--- how forms one deeper expand, where they may stand there
-abbrev pub further : List Macro → ℕ → Option Expander
-further macros zero = None
-further macros (suc k) = Some (expanded macros k)
+-- what a form of a kind comes to, where lists and symbols that expand may still stand so deep
+abbrev pub at_depth : List Macro → ℕ → List ℕ → Bool → Kind → Paid Form
+at_depth macros zero inner in_splice kind = too_deep inner kind
+at_depth macros (suc k) inner in_splice kind = comes_to macros (expanded macros k) inner in_splice kind
 
 -- how top forms within a `begin` stand
 abbrev pub further_top : ℕ → Body → Run State Fault (List Form)
@@ -80,6 +78,46 @@ abbrev pub take : Expander → BuiltIn → List Body → Paid (Option Body)
 take within own.If args = take_if within args
 take within own.Cond args = take_cond within args
 take within _ args = take_case within args
+
+abbrev pub is_for_each : BuiltIn → Bool
+is_for_each own.ForEach = true
+is_for_each _ = false
+
+abbrev pub is_apply : BuiltIn → Bool
+is_apply own.Apply = true
+is_apply _ = false
+
+-- what stands in front of the results: the symbol `begin`, where they are to be top forms
+abbrev pub beginning : BuiltIn → List Form
+beginning b = if is_for_each b then form.Symbol (codes "begin") ∷ [] else []
+
+-- what `.map` and `.for-each`, and what `.apply` make of m and lists, once these are tested
+unfoldable pub mapped : Expander → BuiltIn → Body → List Form → Paid Form
+mapped within b m [] = fails (misfit b)
+mapped within b m (l ∷ ls) = do
+  fs ← results within b m (l ∷ ls) (range_with_len 0 (length (elements_of l)))
+  pure (form.Items (beginning b ++ fs))
+
+unfoldable pub applied : Expander → Body → List Form → Paid Form
+applied within m [] = fails (misfit own.Apply)
+applied within m (l ∷ ls) = within (codes ".apply") false (call_of m (elements_of l))
+
+-- how many lists they take
+abbrev pub takes_lists : BuiltIn → ℕ → Bool
+takes_lists b n = if is_apply b then n == 1 else nat_lt 0 n
+
+unfoldable pub over_checked : List Macro → BuiltIn → Body → List Form → Answer (Unit {0})
+over_checked macros b m args =
+    if takes_lists b (length args) then if is_callable macros m && are_lists args then Ok tt else Err (misfit b)
+    else Err (miscounted b)
+
+unfoldable pub over : List Macro → Expander → BuiltIn → Body → List Form → Paid Form
+over macros within b m args = do
+  _ ← lift (over_checked macros b m args)
+  if is_apply b then applied within m args else mapped within b m args
+
+abbrev pub call_over : List Macro → Expander → BuiltIn → List Body → Paid Form
+call_over macros within b args = m_and_lists within b (over macros within b) args
 
 -- the call of a built-in, by its manner; the list of an `.iota` isn't made where it costs too much
 abbrev pub call_by : Manner → List Macro → Expander → BuiltIn → Bool → List Body → Paid Form

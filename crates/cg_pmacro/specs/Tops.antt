@@ -24,11 +24,11 @@ pub record State : Type 0 where
 abbrev pub state : List Macro → ℕ → State
 state macros left = record { macros = macros; left = left }
 
--- the forms that a top form stands for, and the state behind it
+-- the forms that a top form stands for
 abbrev pub Topped : Type 0
 Topped = Run State Fault (List Form)
 
--- What a top form expands to stands for one form, or for those of a `begin`. Expansions stand at most 1,000 deep.
+-- What a top form expands to stands for itself, or for the forms of a `begin`. Expansions stand at most 1,000 deep.
 abbrev pub top_expanded : Body → Topped
 top_expanded b s =
     onward (expanded s.macros 1000 [] false b s.left) (λ r. onward (split r.0) (λ fs. Ok (fs, state s.macros r.1)))
@@ -68,13 +68,13 @@ placed t f = record { form = f; file = t.file; line = t.line }
 abbrev pub refusal : Fault → Top → Refusal
 refusal x t = record { number = x.number; file = t.file; line = t.line; text = x.text; other = [] }
 
-abbrev pub refused : {A : Type 0} → Top → Answer A → Result A Refusal
-refused t (Ok a) = Ok a
-refused t (Err x) = Err (refusal x t)
-
 -- The forms of a top form have its place, and so has its refusal.
+abbrev pub in_place : Top → Answer (List Form × State) → Result (List Top × State) Refusal
+in_place t (Ok r) = Ok (map (placed t) r.0, r.1)
+in_place t (Err x) = Err (refusal x t)
+
 abbrev pub top_forms : Top → Run State Refusal (List Top)
-top_forms t s = onward (refused t (topped (plain t.form) s)) (λ r. Ok (map (placed t) r.0, r.1))
+top_forms t s = in_place t (topped (plain t.form) s)
 
 -- The forms that a description's top forms stand for, from the first to the last, or its refusal. The budget is 4,000,000
 -- units for all.

@@ -1,7 +1,6 @@
 ghost use Rattle.std.specs.Prelude.{◌≡◌};
 ghost use Rattle.cg_pmacro.specs.BuiltIns.{name_of as its_name, first_named as first_with, built_in as named, is_lazy as takes_what_it_expands};
-ghost use Rattle.cg_pmacro.specs.Expansion.{is_apply as applies, is_for_each as goes_over_each};
-ghost use Rattle.cg_pmacro.specs.Steps.{manner as how_called};
+ghost use Rattle.cg_pmacro.specs.Steps.{manner as how_called, is_apply as applies, is_for_each as goes_over_each};
 
 /// A macro of the language's own (docs/LANGUAGE.md, "Macros").
 #[derive(Clone, Copy, Debug, PartialEq, Eq)]

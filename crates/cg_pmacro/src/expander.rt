@@ -81,7 +81,7 @@ fn expand_symbol(
     name: &Text,
     left: &mut u64,
 ) -> Result<Value, Halt>
-    ensures { Gives (meant.of_kind macros.now (steps.further macros.now depth) [] false (meant.symbol_kind macros.now name.now) left.old) result left.new }
+    ensures { Gives (steps.at_depth macros.now depth [] false (meant.symbol_kind macros.now name.now) left.old) result left.new }
 {
     let Some(found) = macro_named(macros, name.as_slice()) else {
         return Ok(symbol(alloc, name)?);
@@ -116,7 +116,7 @@ fn expand_list(
     items: &[Body],
     left: &mut u64,
 ) -> Result<Value, Halt>
-    ensures { Gives (meant.of_kind macros.now (steps.further macros.now depth) inner.now spliced (meant.list_kind macros.now items.now) left.old) result left.new }
+    ensures { Gives (steps.at_depth macros.now depth inner.now spliced (meant.list_kind macros.now items.now) left.old) result left.new }
 {
     let Some(head) = items.first() else {
         return expand_plain(alloc, macros, depth, inner, items, left);
@@ -162,7 +162,7 @@ fn expand_named(
     left: &mut u64,
 ) -> Result<Value, Halt>
     requires { args.now ≡ drop 1 items.now }
-    ensures { Gives (meant.of_kind macros.now (steps.further macros.now depth) inner.now spliced (meant.named_kind macros.now name.now items.now) left.old) result left.new }
+    ensures { Gives (steps.at_depth macros.now depth inner.now spliced (meant.named_kind macros.now name.now items.now) left.old) result left.new }
 {
     if let Some((formals, body)) = with_arguments(macros, name) {
         if depth == 0 {
@@ -208,7 +208,7 @@ fn expand_plain(
     items: &[Body],
     left: &mut u64,
 ) -> Result<Value, Halt>
-    ensures { Gives (meant.of_kind macros.now (steps.further macros.now depth) inner.now false (meant.other_list None items.now) left.old) result left.new }
+    ensures { Gives (steps.at_depth macros.now depth inner.now false (meant.other_list None items.now) left.old) result left.new }
 {
     if depth == 0 {
         return Err(faulty(alloc, 204, inner));
@@ -850,7 +850,7 @@ fn call_over(
     items: &[Body],
     left: &mut u64,
 ) -> Result<Value, Halt>
-    ensures { Gives (meant.call_over macros.now (meant.expanded macros.now depth) of items.now left.old) result left.new }
+    ensures { Gives (steps.call_over macros.now (meant.expanded macros.now depth) of items.now left.old) result left.new }
 {
     let Some(first) = items.first() else {
         return Err(miscounted(alloc, of));
@@ -862,7 +862,7 @@ fn call_over(
 
 /// The calls of the head on lists.
 #[cycle(expansion)]
-#[tactic(auto, using(crate::proofs::Rules::expansion_rules), unfolding(crate::specs::Expansion::over))]
+#[tactic(auto, using(crate::proofs::Rules::expansion_rules), unfolding(crate::specs::Steps::over))]
 #[inline(never)]
 fn over(
     alloc: Global,
@@ -873,7 +873,7 @@ fn over(
     args: &[Value],
     left: &mut u64,
 ) -> Result<Value, Halt>
-    ensures { Gives (meant.over macros.now (meant.expanded macros.now depth) of head.now args.now left.old) result left.new }
+    ensures { Gives (steps.over macros.now (meant.expanded macros.now depth) of head.now args.now left.old) result left.new }
 {
     may_call(alloc, macros, of, head, args)?;
     if of.is_apply() {
@@ -907,7 +907,7 @@ fn head_of(
 }
 
 /// Refuses a wrong count of lists, a head that can't be called, and lists that aren't.
-#[tactic(auto, using(crate::proofs::Rules::expansion_rules), unfolding(crate::specs::Expansion::over_checked))]
+#[tactic(auto, using(crate::proofs::Rules::expansion_rules), unfolding(crate::specs::Steps::over_checked))]
 fn may_call(
     alloc: Global,
     macros: &[Macro],
@@ -915,7 +915,7 @@ fn may_call(
     head: &Body,
     args: &[Value],
 ) -> Result<(), Halt>
-    ensures { Answers (meant.over_checked macros.now of head.now args.now) result }
+    ensures { Answers (steps.over_checked macros.now of head.now args.now) result }
 {
     let counted = if of.is_apply() {
         args.len() == 1
@@ -994,7 +994,7 @@ fn elements_of(value: &Value) -> &[Value]
 }
 
 #[cycle(expansion)]
-#[tactic(auto, using(crate::proofs::Rules::expansion_rules), unfolding(crate::specs::Expansion::applied))]
+#[tactic(auto, using(crate::proofs::Rules::expansion_rules), unfolding(crate::specs::Steps::applied))]
 #[inline(never)]
 fn apply(
     alloc: Global,
@@ -1004,7 +1004,7 @@ fn apply(
     args: &[Value],
     left: &mut u64,
 ) -> Result<Value, Halt>
-    ensures { Gives (meant.applied (meant.expanded macros.now depth) head.now args.now left.old) result left.new }
+    ensures { Gives (steps.applied (meant.expanded macros.now depth) head.now args.now left.old) result left.new }
 {
     let Some(list) = args.first() else {
         return Err(misfit(alloc, BuiltIn::Apply));
@@ -1046,7 +1046,7 @@ fn row(alloc: Global, args: &[Value], k: usize) -> Result<List<Value>, NoMemory>
 }
 
 #[cycle(expansion)]
-#[tactic(auto, using(crate::proofs::Rules::expansion_rules), unfolding(crate::specs::Expansion::mapped))]
+#[tactic(auto, using(crate::proofs::Rules::expansion_rules), unfolding(crate::specs::Steps::mapped))]
 #[inline(never)]
 fn map(
     alloc: Global,
@@ -1057,7 +1057,7 @@ fn map(
     args: &[Value],
     left: &mut u64,
 ) -> Result<Value, Halt>
-    ensures { Gives (meant.mapped (meant.expanded macros.now depth) of head.now args.now left.old) result left.new }
+    ensures { Gives (steps.mapped (meant.expanded macros.now depth) of head.now args.now left.old) result left.new }
 {
     let Some(list) = args.first() else {
         return Err(misfit(alloc, of));
@@ -1073,7 +1073,7 @@ fn map(
 
 /// What stands in front of the results.
 fn beginning(alloc: Global, of: BuiltIn) -> Result<List<Value>, NoMemory>
-    ensures { IfOk result (λ values. values ≡ meant.beginning of) }
+    ensures { IfOk result (λ values. values ≡ steps.beginning of) }
 {
     let mut values = List::new(alloc);
     if of.is_for_each() {
