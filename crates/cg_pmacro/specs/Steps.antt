@@ -20,7 +20,7 @@ use Rattle.cg_pmacro.specs.Reports.{Halts}
 use Rattle.cg_pmacro.specs.Sizes.{nodes}
 use Rattle.cg_pmacro.specs.Shapes.{binding}
 use Rattle.cg_pmacro.specs.BuiltIns.{name_of, miscounted, misfit, iota_of, ordinary}
-use Rattle.cg_pmacro.specs.Replacing.{Table, without}
+use Rattle.cg_pmacro.specs.Replacing.{Table, Replacer, without, side_by_side, in_order}
 use Rattle.cg_pmacro.specs.Expansion.{Expander, Kind, too_deep, comes_to, expanded, chosen, take_if, take_cond, take_case, let_binding, let_in_order, let_bindings, let_body, stray_pmacro, is_callable, are_lists, results, call_of, elements_of, m_and_lists, spliced_list}
 use Rattle.cg_pmacro.specs.Splitting.{split_to, nothing}
 use Rattle.cg_pmacro.specs.Tops.{State, state, refusal, top_to, no_forms}
@@ -154,3 +154,7 @@ with_binding ordered table name value = (if ordered then without table (name ∷
 abbrev pub hiding : Table → Option (List ℕ) → Table
 hiding table None = table
 hiding table (Some name) = without table (name ∷ [])
+
+-- the bindings of a `.let` or, in order, of a `.let*`, replaced
+abbrev pub bindings_replaced : Replacer → Bool → Table → List Body → List Body
+bindings_replaced within ordered table bs = if ordered then in_order within table bs else side_by_side within table bs
