@@ -85,7 +85,7 @@ replaced_in table list b (body.Symbol s) = looked_up table s
 replaced_in table list b (body.Items bs) = list bs
 replaced_in table list b _ = b
 
--- the names of the table replaced, so many lists inwards
+-- the names of the table replaced, so many lists inwards; in a form without lists there is nothing inwards
 abbrev pub replaced_to : ℕ → Replacer
 replaced_to zero table b = replaced_in table Items b (out-Body b)
 replaced_to (suc k) table b = replaced_in table (λ bs. Items (elements_replaced (replaced_to k) table (head_name bs) bs)) b (out-Body b)
