@@ -1,5 +1,5 @@
 -- The equations of the meanings that recurse on how deep lists may stand.
-use Rattle.std.proofs.Common.{◌≡◌, ◌≢◌, ℕ, zero, suc, ◌+◌, ◌-◌, ◌==◌, ◌&&◌, nat_lt, length, codes, if◌then◌else◌, Bool, true, false, ℤ, List, [], ◌∷◌, Option, Some, None, Result, Ok, Err, ap, refl, sym, arith}
+use Rattle.std.proofs.Common.{◌≡◌, ◌≢◌, ℕ, zero, suc, ◌+◌, ◌-◌, ◌==◌, ◌&&◌, nat_lt, length, codes, if◌then◌else◌, Bool, true, false, ℤ, List, [], ◌∷◌, Option, Some, None, Result, Ok, Err, ap, ◌∙◌, refl, sym, arith}
 use Rattle.std.specs.List.{range_with_len, cons_option}
 use Rattle.std.proofs.lemmas.Grind.{common_steps}
 use Rattle.cg_base.specs.declared.form.Form.{Form}
@@ -7,7 +7,7 @@ use Rattle.cg_base.specs.declared.form.Form.TheVariants as form
 use Rattle.cg_pmacro.specs.declared.fault.Fault.{Fault}
 use Rattle.cg_pmacro.specs.declared.fault.Halt.{Halt}
 use Rattle.cg_pmacro.specs.declared.fault.Halt.TheVariants.{Faulty, NoMemory}
-use Rattle.cg_pmacro.specs.declared.body.Body.{Body}
+use Rattle.cg_pmacro.specs.declared.body.Body.{Body, out-Body}
 use Rattle.cg_pmacro.specs.declared.body.Body.TheViews.{outs-Quoted, outs-Number, outs-Symbol, outs-Str, outs-Flag, outs-Items}
 use Rattle.cg_pmacro.specs.declared.body.Body.TheVariants.{Quoted, Number, Symbol, Str, Flag, Items}
 use Rattle.cg_pmacro.specs.declared.body.Binding.{Binding}
@@ -22,37 +22,46 @@ use Rattle.cg_pmacro.specs.Steps.{over, over_checked, at_depth, affordable, call
 use Rattle.cg_pmacro.specs.declared.built_in.BuiltIn.{BuiltIn}
 use Rattle.cg_pmacro.specs.Shapes.{head_name, macro_named, same_text, is_among}
 use Rattle.cg_pmacro.specs.BuiltIns.{name_of, misfit, iota_of}
-use Rattle.cg_pmacro.specs.Replacing.{Table, without, replaced_to, replaced_layer, looked_up, elements_replaced}
+use Rattle.cg_pmacro.specs.Replacing.{Table, without, replaced_to, replaced_in, looked_up, elements_replaced}
 use Rattle.cg_pmacro.proofs.Fronts.{in_front, none_in_front, one_in_front, more_in_front}
 use Rattle.cg_pmacro.specs.Expansion.{Expander, Kind, too_deep, comes_to, itself, macro_symbol, symbol_kind, kind_of, without_arguments, own_called, expanded, charge, charged, call_of, row, results}
 
+-- what becomes of a list, so many lists inwards
+abbrev list_to : ℕ → Table → List Body → Body
+list_to zero t bs = Items bs
+list_to (suc k) t bs = Items (elements_replaced (replaced_to k) t (head_name bs) bs)
+
+replaced_out : (k : ℕ) (t : Table) (b : Body) → replaced_to k t b ≡ replaced_in t (list_to k t) b (out-Body b)
+replaced_out zero t b = refl
+replaced_out (suc k) t b = refl
+
 pub replaced_symbol : (k : ℕ) (t : Table) (s : List ℕ) → replaced_to k t (Symbol s) ≡ looked_up t s
-replaced_symbol zero t s = ap (replaced_layer None t (Symbol s)) (outs-Symbol s)
-replaced_symbol (suc k) t s = ap (replaced_layer (Some (replaced_to k)) t (Symbol s)) (outs-Symbol s)
+replaced_symbol k t s = replaced_out k t (Symbol s) ∙ ap (replaced_in t (list_to k t) (Symbol s)) (outs-Symbol s)
 
 pub replaced_quoted : (k : ℕ) (t : Table) (f : Form) → replaced_to k t (Quoted f) ≡ Quoted f
-replaced_quoted zero t f = ap (replaced_layer None t (Quoted f)) (outs-Quoted f)
-replaced_quoted (suc k) t f = ap (replaced_layer (Some (replaced_to k)) t (Quoted f)) (outs-Quoted f)
+replaced_quoted k t f = replaced_out k t (Quoted f) ∙ ap (replaced_in t (list_to k t) (Quoted f)) (outs-Quoted f)
 
 pub replaced_number : (k : ℕ) (t : Table) (n : ℤ) → replaced_to k t (Number n) ≡ Number n
-replaced_number zero t n = ap (replaced_layer None t (Number n)) (outs-Number n)
-replaced_number (suc k) t n = ap (replaced_layer (Some (replaced_to k)) t (Number n)) (outs-Number n)
+replaced_number k t n = replaced_out k t (Number n) ∙ ap (replaced_in t (list_to k t) (Number n)) (outs-Number n)
 
 pub replaced_string : (k : ℕ) (t : Table) (s : List ℕ) → replaced_to k t (Str s) ≡ Str s
-replaced_string zero t s = ap (replaced_layer None t (Str s)) (outs-Str s)
-replaced_string (suc k) t s = ap (replaced_layer (Some (replaced_to k)) t (Str s)) (outs-Str s)
+replaced_string k t s = replaced_out k t (Str s) ∙ ap (replaced_in t (list_to k t) (Str s)) (outs-Str s)
 
 pub replaced_flag : (k : ℕ) (t : Table) (b : Bool) → replaced_to k t (Flag b) ≡ Flag b
-replaced_flag zero t b = ap (replaced_layer None t (Flag b)) (outs-Flag b)
-replaced_flag (suc k) t b = ap (replaced_layer (Some (replaced_to k)) t (Flag b)) (outs-Flag b)
+replaced_flag k t b = replaced_out k t (Flag b) ∙ ap (replaced_in t (list_to k t) (Flag b)) (outs-Flag b)
+
+replaced_list : (k : ℕ) (t : Table) (bs : List Body) → replaced_to k t (Items bs) ≡ list_to k t bs
+replaced_list k t bs = replaced_out k t (Items bs) ∙ ap (replaced_in t (list_to k t) (Items bs)) (outs-Items bs)
+
+pub replaced_flat : (k : ℕ) (t : Table) (bs : List Body) → k ≡ 0 → replaced_to k t (Items bs) ≡ Items bs
+replaced_flat zero t bs h = replaced_list zero t bs
+replaced_flat (suc k) t bs h = absurd (omega arith)
 
 pub replaced_items : (k : ℕ) (t : Table) (bs : List Body) → k ≢ 0 → replaced_to k t (Items bs) ≡ Items (elements_replaced (replaced_to (k - 1)) t (head_name bs) bs)
 replaced_items zero t bs h = absurd (h refl)
-replaced_items (suc k) t bs h =
-    let e : suc k - 1 ≡ k = omega arith in
-    rw e (ap (replaced_layer (Some (replaced_to k)) t (Items bs)) (outs-Items bs))
+replaced_items (suc k) t bs h = let e : suc k - 1 ≡ k = omega arith in rw e (replaced_list (suc k) t bs)
 
-pub ruleset replacing_rules = (common_steps, replaced_symbol, replaced_quoted, replaced_number, replaced_string, replaced_flag, replaced_items)
+pub ruleset replacing_rules = (common_steps, replaced_symbol, replaced_quoted, replaced_number, replaced_string, replaced_flag, replaced_flat, replaced_items)
 
 pub expanded_out : (macros : List Macro) (k : ℕ) (inner : List ℕ) (spliced : Bool) (b : Body) (left : ℕ) → expanded macros k inner spliced b left ≡ at_depth macros k inner spliced (kind_of macros b) left
 unfolding expanded

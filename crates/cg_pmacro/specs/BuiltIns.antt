@@ -13,6 +13,7 @@ use Rattle.cg_pmacro.specs.declared.fault.Fault.{Fault}
 use Rattle.cg_pmacro.specs.Outcome.{Answer, fault, onward}
 use Rattle.cg_pmacro.specs.Shapes.{same_text, same_form, form_elements}
 
+-- one answer after the other; a fault ends them
 infixl 10 ◌>>=◌
 abbrev ◌>>=◌ : {A B : Type 0} → Answer A → (A → Answer B) → Answer B
 first >>= next = onward first next

@@ -151,17 +151,13 @@ let_in_order within b earlier (p ∷ ps) = do
   f ← within (name_of b) false (replaced earlier p.1)
   let_in_order within b (without earlier (p.0 ∷ []) ++ record { name = p.0; value = f } ∷ []) ps
 
--- what isn't a binding binds nothing
-abbrev pub bind : Expander → BuiltIn → Bool → List Body → Paid Table
-bind within b ordered bs =
-    if ordered then let_in_order within b [] (filter_map binding bs) else each (let_binding within b) (filter_map binding bs)
-
 abbrev pub is_binding : Body → Bool
 is_binding b = is_some (binding b)
 
 abbrev pub are_bindings : Body → Bool
 are_bindings b = choose (elements b) (list_all is_binding) false
 
+-- the bindings of the first argument
 abbrev pub let_bindings : List Body → List Body
 let_bindings [] = []
 let_bindings (b ∷ bs) = unwrap_or (elements b) []
@@ -170,9 +166,10 @@ abbrev pub let_body : Expander → BuiltIn → List Body → Table → Paid Form
 let_body within b (bs ∷ e ∷ []) table = if are_bindings bs then within (name_of b) false (replaced table e) else fails (misfit b)
 let_body within b _ table = fails (miscounted b)
 
--- `(.let ((n e) ..) body)` and `.let*`: the body with the expansions of the e's in the place of the names
-abbrev pub call_let : Expander → BuiltIn → Bool → List Body → Paid Form
-call_let within b ordered args = bind within b ordered (let_bindings args) >>= let_body within b args
+-- `(.let ((n e) ..) body)` and `.let*`: the body with the expansions of the e's in the place of the names. What isn't a binding
+-- binds nothing, and is refused behind the faults of the e's.
+abbrev pub let_result : Expander → BuiltIn → (List (List ℕ × Body) → Paid Table) → List Body → Paid Form
+let_result within b bound args = bound (filter_map binding (let_bindings args)) >>= let_body within b args
 
 -- the elements of a list
 abbrev pub elements_of : Form → List Form
@@ -262,8 +259,8 @@ abbrev pub own_result : List Macro → Expander → BuiltIn → Bool → List Bo
 own_result macros within own.If in_splice args = chosen within own.If (take_if within args)
 own_result macros within own.Cond in_splice args = chosen within own.Cond (take_cond within args)
 own_result macros within own.Case in_splice args = chosen within own.Case (take_case within args)
-own_result macros within own.Let in_splice args = call_let within own.Let false args
-own_result macros within own.LetStar in_splice args = call_let within own.LetStar true args
+own_result macros within own.Let in_splice args = let_result within own.Let (each (let_binding within own.Let)) args
+own_result macros within own.LetStar in_splice args = let_result within own.LetStar (let_in_order within own.LetStar []) args
 own_result macros within own.Pmacro in_splice args = lift (stray_pmacro args)
 own_result macros within own.Splice in_splice args = spliced_list within args
 own_result macros within own.Map in_splice args = m_and_lists within own.Map (mapped macros within own.Map []) args

@@ -1,5 +1,5 @@
 -- Names replaced in a body by the forms that stand for them (docs/LANGUAGE.md, "Macros").
-use Rattle.std.specs.Prelude.{ℕ, zero, suc, Bool, true, false, not, List, [], ◌∷◌, map, Option, Some, None, codes, if◌then◌else◌}
+use Rattle.std.specs.Prelude.{ℕ, zero, suc, not, List, [], ◌∷◌, map, Option, None, codes, if◌then◌else◌}
 use Rattle.std.specs.List.{find, filter, filter_map}
 use Rattle.cg_pmacro.specs.declared.body.Body.{Body, out-Body}
 use Rattle.cg_pmacro.specs.declared.body.Body.TheOpen as body
@@ -47,14 +47,14 @@ kept_first within table (b ∷ bs) = b ∷ map (within table) bs
 abbrev pub binding_replaced : Replacer → Table → Body → Body
 binding_replaced within table b = choose (bound_name b) (λ name. choose (elements b) (λ bs. Items (kept_first within table bs)) b) (within table b)
 
+-- the bindings of a `.let`, which don't see one another
+abbrev pub side_by_side : Replacer → Table → List Body → List Body
+side_by_side within table bs = map (binding_replaced within table) bs
+
 -- the bindings of a `.let*`, in each of which the names that those before it bind are hidden
 abbrev pub in_order : Replacer → Table → List Body → List Body
 in_order within table [] = []
 in_order within table (b ∷ bs) = binding_replaced within table b ∷ in_order within (hidden table (b ∷ [])) bs
-
--- the bindings of a `.let`, which don't see one another, or of a `.let*`
-abbrev pub bindings_replaced : Replacer → Bool → Table → List Body → List Body
-bindings_replaced within ordered table bs = if ordered then in_order within table bs else map (binding_replaced within table) bs
 
 -- the elements of a `.pmacro` form behind the head: its own arguments aren't replaced in its body
 abbrev pub pmacro_replaced : Replacer → Table → List Body → List Body
@@ -63,11 +63,11 @@ pmacro_replaced within table (formals ∷ bs) =
     choose (elements formals) (λ names. formals ∷ map (within (without table (symbols_among names))) bs) (map (within table) (formals ∷ bs))
 
 -- the elements of a `.let` or `.let*` behind the head: the bound names aren't replaced in its body
-abbrev pub let_replaced : Replacer → Bool → Table → List Body → List Body
-let_replaced within ordered table [] = []
-let_replaced within ordered table (bindings ∷ bs) =
+abbrev pub let_replaced : Replacer → (Table → List Body → List Body) → Table → List Body → List Body
+let_replaced within bound table [] = []
+let_replaced within bound table (bindings ∷ bs) =
     choose (elements bindings)
-    (λ each. Items (bindings_replaced within ordered table each) ∷ map (within (hidden table each)) bs)
+    (λ each. Items (bound table each) ∷ map (within (hidden table each)) bs)
     (map (within table) (bindings ∷ bs))
 
 -- the elements of a list
@@ -75,19 +75,20 @@ abbrev pub elements_replaced : Replacer → Table → Option (List ℕ) → List
 elements_replaced within table name [] = []
 elements_replaced within table name (b ∷ bs) =
     if is_named (codes ".pmacro") name then within table b ∷ pmacro_replaced within table bs
-    else if is_named (codes ".let") name then within table b ∷ let_replaced within false table bs
-    else if is_named (codes ".let*") name then within table b ∷ let_replaced within true table bs
+    else if is_named (codes ".let") name then within table b ∷ let_replaced within (side_by_side within) table bs
+    else if is_named (codes ".let*") name then within table b ∷ let_replaced within (in_order within) table bs
     else map (within table) (b ∷ bs)
 
-abbrev pub replaced_layer : Option Replacer → Table → Body → Body-F Body → Body
-replaced_layer within table b (body.Symbol s) = looked_up table s
-replaced_layer within table b (body.Items bs) = choose within (λ w. Items (elements_replaced w table (head_name bs) bs)) b
-replaced_layer within table b _ = b
+-- A symbol is looked up, and a list becomes what is said of its elements. All others stay.
+abbrev pub replaced_in : Table → (List Body → Body) → Body → Body-F Body → Body
+replaced_in table list b (body.Symbol s) = looked_up table s
+replaced_in table list b (body.Items bs) = list bs
+replaced_in table list b _ = b
 
--- the names of the table replaced, so many lists deep
+-- the names of the table replaced, so many lists inwards; in a form without lists there is nothing inwards
 abbrev pub replaced_to : ℕ → Replacer
-replaced_to zero table b = replaced_layer None table b (out-Body b)
-replaced_to (suc k) table b = replaced_layer (Some (replaced_to k)) table b (out-Body b)
+replaced_to zero table b = replaced_in table Items b (out-Body b)
+replaced_to (suc k) table b = replaced_in table (λ bs. Items (elements_replaced (replaced_to k) table (head_name bs) bs)) b (out-Body b)
 
 -- Each name of the table is replaced by a quoted leaf, but for the places where the name is bound again.
 abbrev pub replaced : Replacer

@@ -13,6 +13,7 @@ use Rattle.cg_pmacro.specs.declared.body.Body.TheOpen.{Body-F}
 use Rattle.cg_pmacro.specs.declared.body.Body.TheVariants.{Number, Symbol, Str, Flag, Items}
 use Rattle.cg_pmacro.specs.declared.body.Macro.{Macro}
 
+-- what comes of what an option holds; none stays none
 infixl 10 ◌>>=◌
 abbrev pub ◌>>=◌ : {A B : Type 0} → Option A → (A → Option B) → Option B
 None >>= next = None

@@ -5,6 +5,7 @@ use Rattle.cg_pmacro.specs.Outcome.{Answer, fault, onward, choose}
 use Rattle.cg_pmacro.specs.Sizes.{lists}
 use Rattle.cg_pmacro.specs.Shapes.{form_symbol, form_elements, is_named}
 
+-- one answer after the other; a fault ends them
 infixl 10 ◌>>=◌
 abbrev ◌>>=◌ : {A B : Type 0} → Answer A → (A → Answer B) → Answer B
 first >>= next = onward first next
@@ -40,7 +41,7 @@ split_by within f =
 abbrev pub nothing : Form → Answer (List Form)
 nothing f = Ok []
 
--- the same, so many lists inwards
+-- the same, so many lists inwards; in a form without lists there is nothing inwards
 abbrev pub split_to : ℕ → Form → Answer (List Form)
 split_to zero f = split_by nothing f
 split_to (suc k) f = split_by (split_to k) f

@@ -1,5 +1,5 @@
 -- What the crate's private functions say of their steps. The meaning of expansion doesn't need it.
-use Rattle.std.specs.Prelude.{◌≡◌, ℕ, zero, suc, ◌+◌, ◌==◌, ◌&&◌, nat_lt, length, Bool, true, false, List, [], ◌∷◌, ◌++◌, Option, Some, None, Result, Ok, Err, codes, if◌then◌else◌}
+use Rattle.std.specs.Prelude.{◌≡◌, ℕ, zero, suc, ◌+◌, ◌==◌, ◌&&◌, nat_lt, length, filter_map, Bool, true, false, List, [], ◌∷◌, ◌++◌, Option, Some, None, Result, Ok, Err, codes, if◌then◌else◌}
 use Rattle.cg_base.specs.declared.form.Form.{Form}
 use Rattle.cg_base.specs.declared.form.Form.TheVariants as form
 use Rattle.std.specs.List.{range_with_len}
@@ -18,9 +18,10 @@ use Rattle.cg_pmacro.specs.declared.fault.Halt.TheVariants.{Faulty, NoMemory}
 use Rattle.cg_pmacro.specs.Outcome.{Answer, Paid, Run, ◌>>=◌, fault, pure, fails, lift, each}
 use Rattle.cg_pmacro.specs.Reports.{Halts}
 use Rattle.cg_pmacro.specs.Sizes.{nodes}
+use Rattle.cg_pmacro.specs.Shapes.{binding}
 use Rattle.cg_pmacro.specs.BuiltIns.{name_of, miscounted, misfit, iota_of, ordinary}
-use Rattle.cg_pmacro.specs.Replacing.{Table, without}
-use Rattle.cg_pmacro.specs.Expansion.{Expander, Kind, too_deep, comes_to, expanded, chosen, take_if, take_cond, take_case, call_let, stray_pmacro, is_callable, are_lists, results, call_of, elements_of, m_and_lists, spliced_list}
+use Rattle.cg_pmacro.specs.Replacing.{Table, Replacer, without, side_by_side, in_order}
+use Rattle.cg_pmacro.specs.Expansion.{Expander, Kind, too_deep, comes_to, expanded, chosen, take_if, take_cond, take_case, let_binding, let_in_order, let_bindings, let_body, stray_pmacro, is_callable, are_lists, results, call_of, elements_of, m_and_lists, spliced_list}
 use Rattle.cg_pmacro.specs.Splitting.{split_to, nothing}
 use Rattle.cg_pmacro.specs.Tops.{State, state, refusal, top_to, no_forms}
 
@@ -119,6 +120,14 @@ over macros within b m args = do
 abbrev pub call_over : List Macro → Expander → BuiltIn → List Body → Paid Form
 call_over macros within b args = m_and_lists within b (over macros within b) args
 
+-- what a `.let` or, in order, a `.let*` binds
+abbrev pub bind : Expander → BuiltIn → Bool → List Body → Paid Table
+bind within b ordered bs =
+    if ordered then let_in_order within b [] (filter_map binding bs) else each (let_binding within b) (filter_map binding bs)
+
+abbrev pub call_let : Expander → BuiltIn → Bool → List Body → Paid Form
+call_let within b ordered args = bind within b ordered (let_bindings args) >>= let_body within b args
+
 -- the call of a built-in, by its manner; the list of an `.iota` isn't made where it costs too much
 abbrev pub call_by : Manner → List Macro → Expander → BuiltIn → Bool → List Body → Paid Form
 call_by way.Choice macros within b spliced args = chosen within b (take within b args)
@@ -145,3 +154,7 @@ with_binding ordered table name value = (if ordered then without table (name ∷
 abbrev pub hiding : Table → Option (List ℕ) → Table
 hiding table None = table
 hiding table (Some name) = without table (name ∷ [])
+
+-- the bindings of a `.let` or, in order, of a `.let*`, replaced
+abbrev pub bindings_replaced : Replacer → Bool → Table → List Body → List Body
+bindings_replaced within ordered table bs = if ordered then in_order within table bs else side_by_side within table bs

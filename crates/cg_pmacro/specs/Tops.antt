@@ -51,7 +51,7 @@ top_by within b = choose (elements b) (top_list within b) (top_expanded b)
 abbrev pub no_forms : Body → Topped
 no_forms b = pure []
 
--- the same, so many lists inwards
+-- the same, so many lists inwards; in a form without lists there is nothing inwards
 abbrev pub top_to : ℕ → Body → Topped
 top_to zero b = top_by no_forms b
 top_to (suc k) b = top_by (top_to k) b

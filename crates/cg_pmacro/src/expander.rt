@@ -695,7 +695,7 @@ fn call_let(
     items: &[Body],
     left: &mut u64,
 ) -> Result<Value, Halt>
-    ensures { Gives (meant.call_let (meant.expanded macros.now depth) of ordered items.now left.old) result left.new }
+    ensures { Gives (steps.call_let (meant.expanded macros.now depth) of ordered items.now left.old) result left.new }
 {
     let table = bind(alloc, macros, depth, of, ordered, let_bindings(items), left)?;
     match items {
@@ -758,7 +758,7 @@ fn bind(
     items: &[Body],
     left: &mut u64,
 ) -> Result<List<Binding>, Halt>
-    ensures { Gives (meant.bind (meant.expanded macros.now depth) of ordered items.now left.old) result left.new }
+    ensures { Gives (steps.bind (meant.expanded macros.now depth) of ordered items.now left.old) result left.new }
 {
     let mut table = List::new(alloc);
     for item in items {

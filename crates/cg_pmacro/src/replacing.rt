@@ -1,7 +1,7 @@
 ghost use Rattle.std.specs.Prelude.{◌≡◌, ◌++◌, [], ◌∷◌, map, Some, OnOk, IfOk, if◌then◌else◌};
 ghost use Rattle.std.specs.Option.{option_copied};
 ghost use Rattle.cg_pmacro.specs.Replacing as meant;
-ghost use Rattle.cg_pmacro.specs.Steps.{hiding as hiding_of};
+ghost use Rattle.cg_pmacro.specs.Steps.{hiding as hiding_of, bindings_replaced as bindings_in};
 ghost use Rattle.cg_pmacro.specs.Shapes.{head_name, first_symbol as first_symbol_of};
 
 use crate::body::{Binding, Body};
@@ -210,7 +210,7 @@ fn push_let(
     items: &[Body],
     done: &mut List<Body>,
 ) -> Result<(), NoMemory>
-    ensures { OnOk result (done.new ≡ done.old ++ meant.let_replaced (meant.replaced_to levels) ordered table.now items.now) }
+    ensures { OnOk result (done.new ≡ done.old ++ meant.let_replaced (meant.replaced_to levels) (bindings_in (meant.replaced_to levels) ordered) table.now items.now) }
 {
     let Some(first) = items.first() else {
         return Ok(());
@@ -237,7 +237,7 @@ fn bindings_replaced(
     later: &mut List<Binding>,
     bindings: &[Body],
 ) -> Result<List<Body>, NoMemory>
-    ensures { IfOk result (λ new. (new ≡ (if ordered then meant.in_order (meant.replaced_to levels) later.old bindings.now else map (meant.binding_replaced (meant.replaced_to levels) table.now) bindings.now)) × (later.new ≡ meant.hidden later.old bindings.now)) }
+    ensures { IfOk result (λ new. (new ≡ (if ordered then meant.in_order (meant.replaced_to levels) later.old bindings.now else meant.side_by_side (meant.replaced_to levels) table.now bindings.now)) × (later.new ≡ meant.hidden later.old bindings.now)) }
 {
     let mut done = List::new(alloc);
     for binding in bindings {

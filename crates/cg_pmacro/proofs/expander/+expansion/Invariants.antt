@@ -3,8 +3,8 @@ use Rattle.std.specs.List.{range_with_len}
 use Rattle.cg_pmacro.specs.Outcome.{each, each_joined}
 use Rattle.cg_pmacro.specs.Shapes.{binding}
 use Rattle.cg_pmacro.proofs.Fronts.{in_front}
-use Rattle.cg_pmacro.specs.Expansion.{expanded, first_arm, let_binding, let_in_order, bind, spliced, results}
-use Rattle.cg_pmacro.specs.Steps.{beginning}
+use Rattle.cg_pmacro.specs.Expansion.{expanded, first_arm, let_binding, let_in_order, spliced, results}
+use Rattle.cg_pmacro.specs.Steps.{beginning, bind}
 use Rattle.cg_pmacro.proofs.expander.+expansion.Given as goal
 
 abbrev pub decreases-expand : goal.decreases-expand

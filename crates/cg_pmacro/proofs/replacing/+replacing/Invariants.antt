@@ -1,5 +1,5 @@
 use Rattle.std.proofs.Common.{◌≡◌, ◌+◌, ◌*◌, ◌++◌, map, take, drop, if◌then◌else◌}
-use Rattle.cg_pmacro.specs.Replacing.{replaced_to, binding_replaced, in_order, hidden}
+use Rattle.cg_pmacro.specs.Replacing.{replaced_to, side_by_side, in_order, hidden}
 use Rattle.cg_pmacro.proofs.replacing.+replacing.Given as goal
 
 abbrev pub decreases-replaced_to : goal.decreases-replaced_to
@@ -33,6 +33,6 @@ invariant-push_replaced-loop-item l = l.done ≡ l.initial.done ++ map (replaced
 -- those that are done in front of the rest, and the table behind all
 abbrev pub invariant-bindings_replaced-loop-binding : goal.invariant-bindings_replaced-loop-binding
 invariant-bindings_replaced-loop-binding l = record {
-  bindings : l.done ++ (if l.ordered then in_order (replaced_to l.levels) l.later (drop l.binding-index l.bindings) else map (binding_replaced (replaced_to l.levels) l.table) (drop l.binding-index l.bindings)) ≡ (if l.ordered then in_order (replaced_to l.levels) l.initial.later l.bindings else map (binding_replaced (replaced_to l.levels) l.table) l.bindings);
+  bindings : l.done ++ (if l.ordered then in_order (replaced_to l.levels) l.later (drop l.binding-index l.bindings) else side_by_side (replaced_to l.levels) l.table (drop l.binding-index l.bindings)) ≡ (if l.ordered then in_order (replaced_to l.levels) l.initial.later l.bindings else side_by_side (replaced_to l.levels) l.table l.bindings);
   table : hidden l.later (drop l.binding-index l.bindings) ≡ hidden l.initial.later l.bindings;
 }
