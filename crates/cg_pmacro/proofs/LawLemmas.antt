@@ -17,7 +17,8 @@ use Rattle.cg_pmacro.proofs.Rules.{at_leaf}
 use Rattle.cg_pmacro.proofs.ExpandRules.{expanded_number, expanded_symbol, expanded_string, expanded_flag}
 use Rattle.cg_pmacro.specs.Outcome.{Answer, onward, choose, each, fault}
 use Rattle.cg_pmacro.specs.Sizes.{nodes, lists}
-use Rattle.cg_pmacro.specs.Shapes.{◌>>=◌, plain, plain_step, same_text, called, head_name, elements, pmacro_form, pmacro_head, macro_named, begins_with_dot, is_named}
+use Rattle.cg_base.specs.Parts.{◌>>=◌}
+use Rattle.cg_pmacro.specs.Shapes.{plain, plain_step, same_text, called, head_name, elements, pmacro_form, pmacro_head, macro_named, begins_with_dot, is_named}
 use Rattle.cg_pmacro.specs.BuiltIns.{name_of, first_named, built_in, all_built_ins}
 use Rattle.cg_pmacro.specs.Expansion.{Expander, listed, macro_call, other_list, named_kind, list_kind, layer_kind, kind_of, comes_to, charge, call_written, with_arguments, expanded}
 use Rattle.cg_pmacro.specs.Splitting.{first_name}

@@ -3,7 +3,8 @@ use Rattle.std.proofs.Common.{◌≡◌, ℕ, Bool, true, false, ◌||◌, List,
 use Rattle.std.specs.List.{list_any}
 use Rattle.std.proofs.lemmas.Grind.{common_steps}
 use Rattle.std.proofs.lemmas.Bool.Decides.{nat_tests}
-use Rattle.cg_pmacro.specs.Shapes.{◌>>=◌, same_text, is_among, own_symbol, names_of}
+use Rattle.cg_base.specs.Parts.{◌>>=◌}
+use Rattle.cg_pmacro.specs.Shapes.{same_text, is_among, own_symbol, names_of}
 use Rattle.cg_pmacro.specs.declared.body.Body.{Body}
 
 -- the names in front of those of the rest, where they are distinct from these

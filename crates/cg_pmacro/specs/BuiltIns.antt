@@ -11,7 +11,8 @@ use Rattle.cg_pmacro.specs.declared.built_in.BuiltIn.{BuiltIn}
 use Rattle.cg_pmacro.specs.declared.built_in.BuiltIn.TheVariants as own
 use Rattle.cg_pmacro.specs.declared.fault.Fault.{Fault}
 use Rattle.cg_pmacro.specs.Outcome.{Answer, fault, onward}
-use Rattle.cg_pmacro.specs.Shapes.{same_text, same_form, form_elements}
+use Rattle.cg_base.specs.Parts.{word_of, number_of, natural_of, elements_of}
+use Rattle.cg_pmacro.specs.Shapes.{same_text, same_form}
 
 -- one answer after the other; a fault ends them
 infixl 10 ◌>>=◌
@@ -82,23 +83,6 @@ miscounted b = fault 201 (name_of b)
 abbrev pub misfit : BuiltIn → Fault
 misfit b = fault 202 (name_of b)
 
-abbrev pub number_in : Form-F Form → Option ℤ
-number_in (layer.Number n) = Some n
-number_in _ = None
-
-abbrev pub natural_in : Form-F Form → Option ℕ
-natural_in (layer.Number (pos n)) = Some n
-natural_in _ = None
-
-abbrev pub text_layer : Form-F Form → Option (List ℕ)
-text_layer (layer.Symbol s) = Some s
-text_layer (layer.Str s) = Some s
-text_layer _ = None
-
--- the text of a symbol or string
-abbrev pub text : Form → Option (List ℕ)
-text f = text_layer (out-Form f)
-
 abbrev pub kept_layer : Form-F Form → List ℕ → Form
 kept_layer (layer.Symbol s) t = Symbol t
 kept_layer _ t = Str t
@@ -127,19 +111,19 @@ is_false f = false_layer (out-Form f)
 
 -- the number that an argument is
 abbrev pub number_for : BuiltIn → Form → Answer ℤ
-number_for b f = ok_or (number_in (out-Form f)) (misfit b)
+number_for b f = ok_or (number_of f) (misfit b)
 
 -- the number that an argument is, where it isn't negative
 abbrev pub natural_for : BuiltIn → Form → Answer ℕ
-natural_for b f = ok_or (natural_in (out-Form f)) (misfit b)
+natural_for b f = ok_or (natural_of f) (misfit b)
 
 -- the text of an argument that is a symbol or string
 abbrev pub text_for : BuiltIn → Form → Answer (List ℕ)
-text_for b f = ok_or (text f) (misfit b)
+text_for b f = ok_or (word_of f) (misfit b)
 
 -- the elements of an argument that is a list
 abbrev pub elements_for : BuiltIn → Form → Answer (List Form)
-elements_for b f = ok_or (form_elements f) (misfit b)
+elements_for b f = ok_or (elements_of f) (misfit b)
 
 -- the texts of symbols, strings and numbers joined
 abbrev pub joined : BuiltIn → List Form → Answer (List ℕ)

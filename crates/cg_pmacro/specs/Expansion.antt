@@ -14,7 +14,8 @@ use Rattle.cg_pmacro.specs.declared.built_in.BuiltIn.{BuiltIn}
 use Rattle.cg_pmacro.specs.declared.built_in.BuiltIn.TheVariants as own
 use Rattle.cg_pmacro.specs.Outcome.{Answer, Paid, ◌>>=◌, pure, fails, lift, each, each_joined, fault, choose}
 use Rattle.cg_pmacro.specs.Sizes.{nodes, lists}
-use Rattle.cg_pmacro.specs.Shapes.{same_form, written, called, head_name, is_named, own_symbol, elements, form_elements, is_list, pmacro_form, pmacro_head, pair_of, binding, formal_names, macro_named, begins_with_dot}
+use Rattle.cg_base.specs.Parts.{elements_of}
+use Rattle.cg_pmacro.specs.Shapes.{same_form, written, called, head_name, is_named, own_symbol, elements, is_list, pmacro_form, pmacro_head, pair_of, binding, formal_names, macro_named, begins_with_dot}
 use Rattle.cg_pmacro.specs.BuiltIns.{name_of, built_in, is_lazy, miscounted, misfit, is_false, iota_of, ordinary}
 use Rattle.cg_pmacro.specs.Replacing.{Table, replaced, without}
 
@@ -172,14 +173,14 @@ abbrev pub let_result : Expander → BuiltIn → (List (List ℕ × Body) → Pa
 let_result within b bound args = bound (filter_map binding (let_bindings args)) >>= let_body within b args
 
 -- the elements of a list
-abbrev pub elements_of : Form → List Form
-elements_of f = unwrap_or (form_elements f) []
+abbrev pub elements_or_none : Form → List Form
+elements_or_none f = unwrap_or (elements_of f) []
 
 abbrev pub is_unsplice : Body → Bool
 is_unsplice b = choose (elements b) (λ bs. is_named (codes ".unsplice") (head_name bs)) false
 
 abbrev pub added : Bool → Form → List Form
-added whole f = if whole then elements_of f else f ∷ []
+added whole f = if whole then elements_or_none f else f ∷ []
 
 -- an argument of `.splice`, and in the place of an `(.unsplice l)` the elements of the list l
 abbrev pub spliced : Expander → Body → Paid (List Form)
@@ -216,15 +217,15 @@ call_of m args = Items (m ∷ map Quoted args)
 
 -- the elements of several lists at one place
 abbrev pub row : ℕ → List Form → List Form
-row k ls = filter_map (λ l. slice_get (elements_of l) k) ls
+row k ls = filter_map (λ l. slice_get (elements_or_none l) k) ls
 
 abbrev pub is_list_of : ℕ → Form → Bool
-is_list_of n f = choose (form_elements f) (λ fs. length fs == n) false
+is_list_of n f = choose (elements_of f) (λ fs. length fs == n) false
 
 -- the arguments are lists that are equally long
 abbrev pub are_lists : List Form → Bool
 are_lists [] = true
-are_lists (l ∷ ls) = choose (form_elements l) (λ fs. list_all (is_list_of (length fs)) (l ∷ ls)) false
+are_lists (l ∷ ls) = choose (elements_of l) (λ fs. list_all (is_list_of (length fs)) (l ∷ ls)) false
 
 -- the results of m on the lists' elements, place by place
 abbrev pub results : Expander → BuiltIn → Body → List Form → List ℕ → Paid (List Form)
@@ -236,13 +237,13 @@ abbrev pub mapped : List Macro → Expander → BuiltIn → List Form → Body �
 mapped macros within b front m [] = fails (miscounted b)
 mapped macros within b front m (l ∷ ls) =
     if is_callable macros m && are_lists (l ∷ ls)
-    then (results within b m (l ∷ ls) (range_with_len 0 (length (elements_of l))) >>= λ fs. pure (form.Items (front ++ fs)))
+    then (results within b m (l ∷ ls) (range_with_len 0 (length (elements_or_none l))) >>= λ fs. pure (form.Items (front ++ fs)))
     else fails (misfit b)
 
 -- `(.apply m l)`: m called with the elements of l
 abbrev pub applied : List Macro → Expander → Body → List Form → Paid Form
 applied macros within m (l ∷ []) =
-    if is_callable macros m && are_lists (l ∷ []) then within (codes ".apply") false (call_of m (elements_of l))
+    if is_callable macros m && are_lists (l ∷ []) then within (codes ".apply") false (call_of m (elements_or_none l))
     else fails (misfit own.Apply)
 applied macros within m ls = fails (miscounted own.Apply)
 

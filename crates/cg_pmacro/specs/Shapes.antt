@@ -2,7 +2,8 @@
 use Rattle.std.specs.Prelude.{ℕ, Bool, false, ◌==◌, List, [], ◌∷◌, is_some, Option, Some, None, codes, if◌then◌else◌}
 use Rattle.std.specs.List.{list_any, find}
 use Rattle.std.specs.Cmp.Lexicographic.{pointwise}
-use Rattle.cg_base.specs.declared.form.Form.{Form, fold-Form, out-Form}
+use Rattle.cg_base.specs.Parts.{◌>>=◌, symbol_of}
+use Rattle.cg_base.specs.declared.form.Form.{Form, fold-Form}
 use Rattle.cg_base.specs.declared.form.Form.TheOpen as layer
 use Rattle.cg_base.specs.declared.form.Form.TheOpen.{Form-F}
 use Rattle.cg_base.specs.declared.form.Form.TheVariants as form
@@ -12,12 +13,6 @@ use Rattle.cg_pmacro.specs.declared.body.Body.TheOpen as body
 use Rattle.cg_pmacro.specs.declared.body.Body.TheOpen.{Body-F}
 use Rattle.cg_pmacro.specs.declared.body.Body.TheVariants.{Number, Symbol, Str, Flag, Items}
 use Rattle.cg_pmacro.specs.declared.body.Macro.{Macro}
-
--- what comes of what an option holds; none stays none
-infixl 10 ◌>>=◌
-abbrev pub ◌>>=◌ : {A B : Type 0} → Option A → (A → Option B) → Option B
-None >>= next = None
-(Some a) >>= next = next a
 
 abbrev pub same_text : List ℕ → List ℕ → Bool
 same_text = pointwise ◌==◌
@@ -49,24 +44,8 @@ written_step (body.Items fs) = form.Items fs
 abbrev pub written : Body → Form
 written = fold-Body Form written_step
 
--- the text of a form that is a symbol
-abbrev pub symbol_layer : Form-F Form → Option (List ℕ)
-symbol_layer (layer.Symbol s) = Some s
-symbol_layer _ = None
-
-abbrev pub form_symbol : Form → Option (List ℕ)
-form_symbol f = symbol_layer (out-Form f)
-
-abbrev pub form_elements_layer : Form-F Form → Option (List Form)
-form_elements_layer (layer.Items fs) = Some fs
-form_elements_layer _ = None
-
--- the elements of a list
-abbrev pub form_elements : Form → Option (List Form)
-form_elements f = form_elements_layer (out-Form f)
-
 abbrev pub called_layer : Body-F Body → Option (List ℕ)
-called_layer (body.Quoted f) = form_symbol f
+called_layer (body.Quoted f) = symbol_of f
 called_layer (body.Symbol s) = Some s
 called_layer _ = None
 

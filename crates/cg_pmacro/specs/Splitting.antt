@@ -3,7 +3,8 @@ use Rattle.std.specs.Prelude.{ℕ, zero, suc, List, [], ◌∷◌, ◌++◌, dro
 use Rattle.cg_base.specs.declared.form.Form.{Form}
 use Rattle.cg_pmacro.specs.Outcome.{Answer, fault, onward, choose}
 use Rattle.cg_pmacro.specs.Sizes.{lists}
-use Rattle.cg_pmacro.specs.Shapes.{form_symbol, form_elements, is_named}
+use Rattle.cg_base.specs.Parts.{symbol_of, elements_of}
+use Rattle.cg_pmacro.specs.Shapes.{is_named}
 
 -- one answer after the other; a fault ends them
 infixl 10 ◌>>=◌
@@ -13,14 +14,14 @@ first >>= next = onward first next
 -- the symbol that heads a list
 abbrev pub first_name : List Form → Option (List ℕ)
 first_name [] = None
-first_name (f ∷ fs) = form_symbol f
+first_name (f ∷ fs) = symbol_of f
 
 abbrev pub form_head : Form → Option (List ℕ)
-form_head f = choose (form_elements f) first_name None
+form_head f = choose (elements_of f) first_name None
 
 -- the elements of a list behind its head
 abbrev pub behind_head : Form → List Form
-behind_head f = drop 1 (unwrap_or (form_elements f) [])
+behind_head f = drop 1 (unwrap_or (elements_of f) [])
 
 -- what the first stands for, and behind it what the rest stand for
 abbrev pub split_each : (Form → Answer (List Form)) → List Form → Answer (List Form)

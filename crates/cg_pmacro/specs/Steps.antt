@@ -21,7 +21,7 @@ use Rattle.cg_pmacro.specs.Sizes.{nodes}
 use Rattle.cg_pmacro.specs.Shapes.{binding}
 use Rattle.cg_pmacro.specs.BuiltIns.{name_of, miscounted, misfit, iota_of, ordinary}
 use Rattle.cg_pmacro.specs.Replacing.{Table, Replacer, without, side_by_side, in_order}
-use Rattle.cg_pmacro.specs.Expansion.{Expander, Kind, too_deep, comes_to, expanded, chosen, take_if, take_cond, take_case, let_binding, let_in_order, let_bindings, let_body, stray_pmacro, is_callable, are_lists, results, call_of, elements_of, m_and_lists, spliced_list}
+use Rattle.cg_pmacro.specs.Expansion.{Expander, Kind, too_deep, comes_to, expanded, chosen, take_if, take_cond, take_case, let_binding, let_in_order, let_bindings, let_body, stray_pmacro, is_callable, are_lists, results, call_of, elements_or_none, m_and_lists, spliced_list}
 use Rattle.cg_pmacro.specs.Splitting.{split_to, nothing}
 use Rattle.cg_pmacro.specs.Tops.{State, state, refusal, top_to, no_forms}
 
@@ -96,12 +96,12 @@ beginning b = if is_for_each b then form.Symbol (codes "begin") ∷ [] else []
 unfoldable pub mapped : Expander → BuiltIn → Body → List Form → Paid Form
 mapped within b m [] = fails (misfit b)
 mapped within b m (l ∷ ls) = do
-  fs ← results within b m (l ∷ ls) (range_with_len 0 (length (elements_of l)))
+  fs ← results within b m (l ∷ ls) (range_with_len 0 (length (elements_or_none l)))
   pure (form.Items (beginning b ++ fs))
 
 unfoldable pub applied : Expander → Body → List Form → Paid Form
 applied within m [] = fails (misfit own.Apply)
-applied within m (l ∷ ls) = within (codes ".apply") false (call_of m (elements_of l))
+applied within m (l ∷ ls) = within (codes ".apply") false (call_of m (elements_or_none l))
 
 -- how many lists they take
 abbrev pub takes_lists : BuiltIn → ℕ → Bool

@@ -2,7 +2,7 @@ ghost use Rattle.std.specs.Prelude.{◌≡◌, ◌<◌, ◌^◌, IfOk};
 ghost use Rattle.std.specs.Option.{option_copied};
 ghost use Rattle.cg_pmacro.specs.Reports.{Answers, IsHalt};
 ghost use Rattle.cg_pmacro.specs.BuiltIns as meant;
-ghost use Rattle.cg_pmacro.specs.Shapes.{form_elements as form_elements_of};
+ghost use Rattle.cg_base.specs.Parts.{word_of, elements_of};
 
 use crate::built_in::BuiltIn;
 use crate::fault::{Halt, faulty};
@@ -50,7 +50,7 @@ pub fn natural(alloc: Global, of: BuiltIn, value: &Value) -> Result<u64, Halt>
 /// The text of a symbol or string.
 #[tactic(auto, using(crate::proofs::Values::value_rules))]
 pub fn text(value: &Value) -> Option<&Text>
-    ensures { option_copied result ≡ meant.text value.now }
+    ensures { option_copied result ≡ word_of value.now }
 {
     match &value.node {
         Node::Symbol(text) => Some(text.as_ref()),
@@ -73,7 +73,7 @@ pub fn with_text(alloc: Global, value: &Value, text: Text) -> Result<Value, NoMe
 /// The elements of a list.
 #[tactic(auto, using(crate::proofs::Values::value_rules))]
 pub fn form_elements(value: &Value) -> Option<&[Value]>
-    ensures { option_copied result ≡ form_elements_of value.now }
+    ensures { option_copied result ≡ elements_of value.now }
 {
     match &value.node {
         Node::Items(_, items) => Some(items.as_ref().as_slice()),

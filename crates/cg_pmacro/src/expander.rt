@@ -984,8 +984,8 @@ fn are_lists_of(args: &[Value], count: usize) -> bool
 }
 
 /// The elements of a list, or none.
-fn elements_of(value: &Value) -> &[Value]
-    ensures { result.now ≡ meant.elements_of value.now }
+fn elements_or_none(value: &Value) -> &[Value]
+    ensures { result.now ≡ meant.elements_or_none value.now }
 {
     match form_elements(value) {
         Some(items) => items,
@@ -1009,7 +1009,7 @@ fn apply(
     let Some(list) = args.first() else {
         return Err(misfit(alloc, BuiltIn::Apply));
     };
-    let call = call_on(alloc, head, elements_of(list))?;
+    let call = call_on(alloc, head, elements_or_none(list))?;
     expand(alloc, macros, depth, b".apply", false, &call, left)
 }
 
@@ -1027,9 +1027,9 @@ fn call_on(alloc: Global, head: &Body, args: &[Value]) -> Result<Body, NoMemory>
 
 /// The element of a list at a place. None past its end, and for a form that is no list.
 fn element_at(value: &Value, k: usize) -> Option<&Value>
-    ensures { option_copied result ≡ slice_get (meant.elements_of value.now) k }
+    ensures { option_copied result ≡ slice_get (meant.elements_or_none value.now) k }
 {
-    elements_of(value).get(k)
+    elements_or_none(value).get(k)
 }
 
 /// The elements of the lists at one place.
@@ -1062,7 +1062,7 @@ fn map(
     let Some(list) = args.first() else {
         return Err(misfit(alloc, of));
     };
-    let count = elements_of(list).len();
+    let count = elements_or_none(list).len();
     let mut values = beginning(alloc, of)?;
     for k in 0..count {
         let call = call_on(alloc, head, row(alloc, args, k)?.as_slice())?;

@@ -1,5 +1,6 @@
 ghost use Rattle.std.specs.Prelude.{◌≡◌, IfOk};
 ghost use Rattle.std.specs.Option.{option_copied, option_map};
+ghost use Rattle.cg_base.specs.Parts.{symbol_of};
 ghost use Rattle.cg_pmacro.specs.Shapes as seen;
 
 use crate::body::{Body, Macro};
@@ -105,7 +106,7 @@ pub fn same_form(a: &Value, b: &Value) -> bool
 /// The text of a form that is a symbol.
 #[tactic(auto, using(crate::proofs::Values::value_rules))]
 pub fn form_symbol(value: &Value) -> Option<&Text>
-    ensures { option_copied result ≡ seen.form_symbol value.now }
+    ensures { option_copied result ≡ symbol_of value.now }
 {
     match &value.node {
         Node::Symbol(text) => Some(text.as_ref()),
