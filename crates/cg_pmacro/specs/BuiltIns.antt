@@ -137,6 +137,7 @@ joined b (f ∷ fs) = do
 abbrev pub error_of : List Form → Answer Form
 error_of args = joined own.Error args >>= λ t. Err (fault 205 t)
 
+-- a digit of base 16 as a byte, in lower case
 abbrev pub hex_digit : ℕ → ℕ
 hex_digit d = if nat_lt d 10 then 48 + d else 87 + d
 
@@ -161,9 +162,11 @@ hex_of (x ∷ y ∷ []) = do
   if nat_le 1 w && nat_le w 16 then Ok (Str (last_digits w n)) else Err (misfit own.Hex)
 hex_of _ = Err (miscounted own.Hex)
 
+-- an ASCII letter as a capital; another byte stays
 abbrev pub upper : ℕ → ℕ
 upper c = if nat_le 97 c && nat_le c 122 then c - 32 else c
 
+-- an ASCII letter as a small one; another byte stays
 abbrev pub lower : ℕ → ℕ
 lower c = if nat_le 65 c && nat_le c 90 then c + 32 else c
 
@@ -197,6 +200,7 @@ numbers (suc n) start step = Number start ∷ numbers n (start +ℤ step) step
 abbrev pub iota_fits : ℕ → ℤ → ℤ → Bool
 iota_fits n start step = n == 0 || fits_64 (start +ℤ (pos (n - 1) *ℤ step))
 
+-- the list of so many numbers, where all have 64 bits
 abbrev pub iota_from : ℕ → ℤ → ℤ → Answer Form
 iota_from n start step = if iota_fits n start step then Ok (Items (numbers n start step)) else Err (misfit own.Iota)
 

@@ -11,6 +11,7 @@ abbrev pub string_layer : Body-F Body → Bool
 string_layer (body.Str s) = true
 string_layer _ = false
 
+-- it is a string
 abbrev pub is_string : Body → Bool
 is_string b = string_layer (out-Body b)
 
@@ -28,6 +29,7 @@ defined_name named = choose (elements named) first_symbol (own_symbol named)
 abbrev pub name_or_word : Option (List ℕ) → List ℕ
 name_or_word name = unwrap_or name (codes "define-pmacro")
 
+-- the name that a definition of another shape has in its refusal
 abbrev pub misdefined_name : List Body → List ℕ
 misdefined_name (d ∷ named ∷ bs) = name_or_word (defined_name named)
 misdefined_name _ = codes "define-pmacro"
@@ -46,6 +48,7 @@ defined_as macros named b =
     (λ name. if is_some (macro_named macros name) || begins_with_dot name then Err (fault 206 name) else macro_of name named b)
     (Err (fault 202 (codes "define-pmacro")))
 
+-- `(define-pmacro NAMED BODY)`
 abbrev pub defined : List Macro → List Body → Answer Macro
 defined macros (d ∷ named ∷ b ∷ []) = defined_as macros named b
 defined macros bs = Err (fault 202 (misdefined_name bs))

@@ -77,6 +77,7 @@ chosen within b taking = do
   taken ← taking
   choose taken (within (name_of b) false) (pure (form.Items []))
 
+-- the one of the arguments behind c that is taken
 abbrev pub branch : List Body → Form → Answer (Option Body)
 branch (a ∷ []) c = Ok (if is_false c then None else Some a)
 branch (a ∷ b ∷ []) c = Ok (Some (if is_false c then b else a))
@@ -155,6 +156,7 @@ let_in_order within b earlier (p ∷ ps) = do
 abbrev pub is_binding : Body → Bool
 is_binding b = is_some (binding b)
 
+-- a list of bindings `(n e)`, each n a symbol
 abbrev pub are_bindings : Body → Bool
 are_bindings b = choose (elements b) (list_all is_binding) false
 
@@ -163,6 +165,7 @@ abbrev pub let_bindings : List Body → List Body
 let_bindings [] = []
 let_bindings (b ∷ bs) = unwrap_or (elements b) []
 
+-- the body with the names of the table replaced, expanded
 abbrev pub let_body : Expander → BuiltIn → List Body → Table → Paid Form
 let_body within b (bs ∷ e ∷ []) table = if are_bindings bs then within (name_of b) false (replaced table e) else fails (misfit b)
 let_body within b _ table = fails (miscounted b)
@@ -176,9 +179,11 @@ let_result within b bound args = bound (filter_map binding (let_bindings args)) 
 abbrev pub elements_or_none : Form → List Form
 elements_or_none f = unwrap_or (elements_of f) []
 
+-- it is a call of `.unsplice`
 abbrev pub is_unsplice : Body → Bool
 is_unsplice b = choose (elements b) (λ bs. is_named (codes ".unsplice") (head_name bs)) false
 
+-- the whole list's elements, or the form alone
 abbrev pub added : Bool → Form → List Form
 added whole f = if whole then elements_or_none f else f ∷ []
 
@@ -208,6 +213,7 @@ with_arguments (Some m) = choose m.formals (λ names. Some (names, m.body)) None
 abbrev pub may_be_called : List Macro → List ℕ → Bool
 may_be_called macros name = is_some (with_arguments (macro_named macros name)) || choose (built_in name) (λ b. not (is_lazy b)) false
 
+-- m is a `.pmacro` form, or a symbol with such a name
 abbrev pub is_callable : List Macro → Body → Bool
 is_callable macros m = is_some (pmacro_form m) || choose (called m) (may_be_called macros) false
 
@@ -318,6 +324,7 @@ layer_kind macros (body.Str s) = itself (form.Str s)
 layer_kind macros (body.Flag b) = itself (form.Flag b)
 layer_kind macros (body.Items bs) = list_kind macros bs
 
+-- what a form is, among these macros
 abbrev pub kind_of : List Macro → Body → Kind
 kind_of macros b = layer_kind macros (out-Body b)
 

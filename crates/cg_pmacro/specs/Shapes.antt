@@ -1,4 +1,5 @@
--- What can be seen of a form, and of a form with quoted leaves (docs/LANGUAGE.md, "Macros").
+-- What can be seen of a form, and of a form with quoted leaves (docs/LANGUAGE.md, "Macros"). A name that ends in `_layer` says
+-- it of one level of a form.
 use Rattle.std.specs.Prelude.{ℕ, Bool, false, ◌==◌, List, [], ◌∷◌, is_some, Option, Some, None, codes, if◌then◌else◌}
 use Rattle.std.specs.List.{list_any, find}
 use Rattle.std.specs.Cmp.Lexicographic.{pointwise}
@@ -58,6 +59,7 @@ abbrev pub head_name : List Body → Option (List ℕ)
 head_name [] = None
 head_name (b ∷ bs) = called b
 
+-- it is a symbol, of that name
 abbrev pub is_named : List ℕ → Option (List ℕ) → Bool
 is_named name None = false
 is_named name (Some s) = same_text s name
@@ -132,6 +134,7 @@ formal_names b = elements b >>= names_of
 abbrev pub macro_named : List Macro → List ℕ → Option Macro
 macro_named macros name = find (λ m. same_text m.name name) macros
 
+-- A name that begins with a dot is of a built-in macro, or of none.
 abbrev pub begins_with_dot : List ℕ → Bool
 begins_with_dot [] = false
 begins_with_dot (b ∷ bs) = b == 46

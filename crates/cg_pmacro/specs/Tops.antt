@@ -45,6 +45,7 @@ top_list within b bs =
     else if is_named (codes "include") (head_name bs) then fails (fault 307 (codes "include"))
     else top_expanded b
 
+-- What a top form stands for, where `within` says it of the elements of a `begin`.
 abbrev pub top_by : (Body → Topped) → Body → Topped
 top_by within b = choose (elements b) (top_list within b) (top_expanded b)
 
