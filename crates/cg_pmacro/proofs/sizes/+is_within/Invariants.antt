@@ -1,4 +1,4 @@
-use Rattle.std.proofs.Common.{◌≡◌, ◌+◌, ◌≤◌, ◌↔◌, map, drop}
+use Rattle.std.proofs.Common.{◌+◌, ◌≤◌, ◌↔◌, map, drop}
 use Rattle.cg_pmacro.specs.Sizes.{lists, greatest_of}
 use Rattle.cg_pmacro.proofs.sizes.+is_within.Given as goal
 
