@@ -89,7 +89,7 @@ decreases-over l = 20 * l.depth + 7
 -- the rest gives what the whole gives
 abbrev pub invariant-plain_list-loop-item : goal.invariant-plain_list-loop-item
 invariant-plain_list-loop-item l =
-    each (expanded l.macros l.depth) l.inner l.values (drop l.item-index l.items) l.left ≡ each (expanded l.macros l.depth) l.inner [] l.items l.initial.left
+    each (expanded l.macros l.depth) l.inner l.forms (drop l.item-index l.items) l.left ≡ each (expanded l.macros l.depth) l.inner [] l.items l.initial.left
 
 abbrev pub invariant-each-loop-item : goal.invariant-each-loop-item
 invariant-each-loop-item l =
@@ -105,8 +105,8 @@ invariant-bind-loop-item l =
 
 abbrev pub invariant-splice-loop-item : goal.invariant-splice-loop-item
 invariant-splice-loop-item l =
-    splice (expanded l.macros l.depth) l.values (drop l.item-index l.items) l.left ≡ splice (expanded l.macros l.depth) [] l.items l.initial.left
+    splice (expanded l.macros l.depth) l.forms (drop l.item-index l.items) l.left ≡ splice (expanded l.macros l.depth) [] l.items l.initial.left
 
 abbrev pub invariant-map-loop-k : goal.invariant-map-loop-k
 invariant-map-loop-k l =
-    calls (expanded l.macros l.depth) l.of l.head l.args l.values (l.count - l.k) l.k l.left ≡ calls (expanded l.macros l.depth) l.of l.head l.args (beginning l.of) l.count 0 l.initial.left
+    calls (expanded l.macros l.depth) l.of l.head l.args l.forms (l.count - l.k) l.k l.left ≡ calls (expanded l.macros l.depth) l.of l.head l.args (beginning l.of) l.count 0 l.initial.left
