@@ -6,12 +6,10 @@ use Rattle.std.proofs.Common.{map}
 use Rattle.std.proofs.lemmas.Grind.{common_steps}
 use lib.IntN.{suc_ℤ-*ℤ, zero-*ℤ}
 use Rattle.cg_base.specs.declared.form.Form.{Form}
-use Rattle.cg_base.specs.declared.form.Form.TheOpen as layer
-use Rattle.cg_base.specs.declared.form.Form.TheViews.{rolls-Items, rolls-Number}
-use Rattle.cg_base.specs.declared.form.Form.TheFolds.{fold-roll-Form}
 use Rattle.cg_base.specs.declared.form.Form.TheVariants.{Number, Items}
-use Rattle.cg_pmacro.specs.Sizes.{nodes, nodes_step, sum_of}
+use Rattle.cg_pmacro.specs.Sizes.{nodes, sum_of}
 use Rattle.cg_pmacro.specs.BuiltIns.{numbers, fits_64, iota_fits}
+use Rattle.cg_pmacro.proofs.Values.{nodes_items, nodes_number}
 
 next_place : (k : ℕ) (s d : ℤ) → (s +ℤ d) +ℤ (pos k *ℤ d) ≡ s +ℤ (pos (suc k) *ℤ d)
 next_place k s d = let e = suc_ℤ-*ℤ (pos k) d in omega (arith, ints, e)
@@ -44,12 +42,6 @@ between k n s (negsuc e) le first last =
     let m : k * suc e ≤ n * suc e = mul-le-mul le (le_self (suc e)) in
     let f = fits_bounds s first in let l = fits_bounds (s +ℤ (pos n *ℤ negsuc e)) last in
     bounds_fit (s +ℤ (pos k *ℤ negsuc e)) (omega (arith, ints)) (omega (arith, ints))
-
-nodes_items : (fs : List Form) → nodes (Items fs) ≡ 1 + sum_of (map nodes fs)
-nodes_items fs = ap nodes (sym (rolls-Items fs)) ∙ fold-roll-Form ℕ nodes_step (layer.Items fs)
-
-nodes_number : (s : ℤ) → nodes (Number s) ≡ 1
-nodes_number s = ap nodes (sym (rolls-Number s)) ∙ fold-roll-Form ℕ nodes_step (layer.Number s)
 
 numbers_sum : (n : ℕ) (s d : ℤ) → sum_of (map nodes (numbers n s d)) ≡ n
 numbers_sum zero s d = refl

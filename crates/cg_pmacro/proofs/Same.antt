@@ -9,7 +9,7 @@ use Rattle.std.specs.contracts.prelude.BoolPartialEq.TheImpl as flags
 use Rattle.std.specs.declared.rc.Rc.{Rc}
 use Rattle.std.specs.declared.alloc.Global.{Global}
 use Rattle.cg_base.specs.declared.form.Form.{Form}
-use Rattle.cg_base.specs.contracts.form.Form.{the_parts, as_values, the_make, the_beta}
+use Rattle.cg_base.specs.contracts.form.Form.{the_parts, as_values, the_beta}
 use Rattle.cg_base.specs.contracts.form.FormPartialEq.TheImpl.Laws as equality
 use Rattle.cg_pmacro.specs.declared.value.Node.{Node}
 use Rattle.cg_pmacro.specs.declared.value.Node.TheVariants.{Number, Symbol, Str, Flag, Items}

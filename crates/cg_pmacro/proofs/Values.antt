@@ -6,14 +6,12 @@ use Rattle.cg_base.specs.declared.form.Form.TheOpen as layer
 use Rattle.cg_base.specs.declared.form.Form.TheViews.{rolls-Number, rolls-Symbol, rolls-Str, rolls-Flag, rolls-Items, outs-Number, outs-Symbol, outs-Str, outs-Flag, outs-Items}
 use Rattle.cg_base.specs.declared.form.Form.TheFolds.{fold-roll-Form}
 use Rattle.cg_base.specs.declared.form.Form.TheVariants.{Number, Symbol, Str, Flag, Items}
-use Rattle.cg_pmacro.specs.Sizes.{nodes, nodes_step, sum_of, greatest_of, lists}
+use Rattle.cg_pmacro.specs.Sizes.{nodes, nodes_step, sum_of, lists}
 use Rattle.cg_pmacro.specs.Depths.{lists_step}
+use Rattle.cg_pmacro.specs.Falls.{lists_items}
 
 pub nodes_items : (fs : List Form) → nodes (Items fs) ≡ 1 + sum_of (map nodes fs)
 nodes_items fs = ap nodes (sym (rolls-Items fs)) ∙ fold-roll-Form ℕ nodes_step (layer.Items fs)
-
-pub lists_items : (fs : List Form) → lists (Items fs) ≡ 1 + greatest_of (map lists fs)
-lists_items fs = ap lists (sym (rolls-Items fs)) ∙ fold-roll-Form ℕ lists_step (layer.Items fs)
 
 pub nodes_number : (n : ℤ) → nodes (Number n) ≡ 1
 nodes_number n = ap nodes (sym (rolls-Number n)) ∙ fold-roll-Form ℕ nodes_step (layer.Number n)

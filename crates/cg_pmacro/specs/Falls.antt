@@ -13,7 +13,7 @@ use Rattle.cg_pmacro.specs.declared.value.Value.TheDeep.{deep-Node}
 use Rattle.cg_pmacro.specs.Depths.{greatest_of, lists_step, lists}
 use Rattle.cg_pmacro.specs.Values.{form_of}
 
-lists_items : (fs : List Form) → lists (form.Items fs) ≡ 1 + greatest_of (map lists fs)
+pub lists_items : (fs : List Form) → lists (form.Items fs) ≡ 1 + greatest_of (map lists fs)
 lists_items fs = ap lists (sym (rolls-Items fs)) ∙ fold-roll-Form ℕ lists_step (layer.Items fs)
 
 most_lists : (fs : List Form) → most (λ f. lists f + 1) fs ≤ greatest_of (map lists fs) + 1

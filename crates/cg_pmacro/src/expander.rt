@@ -279,11 +279,11 @@ fn plain_list(
 ) -> Result<Value, Halt>
     ensures { Gives (meant.listed (each_of (meant.expanded macros.now depth inner.now false) items.now) left.old) result left.new }
 {
-    let mut values = List::new(alloc);
+    let mut forms = List::new(alloc);
     for item in items {
-        values.push(expand(alloc, macros, depth, inner, false, item, left)?)?;
+        forms.push(expand(alloc, macros, depth, inner, false, item, left)?)?;
     }
-    Ok(Value::list(alloc, values)?)
+    Ok(Value::list(alloc, forms)?)
 }
 
 /// The expansions of several forms from left to right.
@@ -829,13 +829,13 @@ fn splice(
 ) -> Result<Value, Halt>
     ensures { Gives (meant.spliced_list (meant.expanded macros.now depth) items.now left.old) result left.new }
 {
-    let mut values = List::new(alloc);
+    let mut forms = List::new(alloc);
     for item in items {
         let whole = is_unsplice(item);
         let value = expand(alloc, macros, depth, b".splice", whole, item, left)?;
-        add_spliced(whole, value, &mut values)?;
+        add_spliced(whole, value, &mut forms)?;
     }
-    Ok(Value::list(alloc, values)?)
+    Ok(Value::list(alloc, forms)?)
 }
 
 /// `.map`, `.for-each` and `.apply`.
@@ -1063,12 +1063,12 @@ fn map(
         return Err(misfit(alloc, of));
     };
     let count = elements_or_none(list).len();
-    let mut values = beginning(alloc, of)?;
+    let mut forms = beginning(alloc, of)?;
     for k in 0..count {
         let call = call_on(alloc, head, row(alloc, args, k)?.as_slice())?;
-        values.push(expand(alloc, macros, depth, of.name(), false, &call, left)?)?;
+        forms.push(expand(alloc, macros, depth, of.name(), false, &call, left)?)?;
     }
-    Ok(Value::list(alloc, values)?)
+    Ok(Value::list(alloc, forms)?)
 }
 
 /// What stands in front of the results.

@@ -94,7 +94,7 @@ decreases-over l = 20 * l.depth + 7
 -- the rest gives what the whole gives
 abbrev pub invariant-plain_list-loop-item : goal.invariant-plain_list-loop-item
 invariant-plain_list-loop-item l =
-    in_front l.values (each (expanded l.macros l.depth l.inner false) (drop l.item-index l.items) l.left) ≡ each (expanded l.macros l.depth l.inner false) l.items l.initial.left
+    in_front l.forms (each (expanded l.macros l.depth l.inner false) (drop l.item-index l.items) l.left) ≡ each (expanded l.macros l.depth l.inner false) l.items l.initial.left
 
 abbrev pub invariant-each-loop-item : goal.invariant-each-loop-item
 invariant-each-loop-item l =
@@ -112,8 +112,8 @@ invariant-bind-loop-item l =
 
 abbrev pub invariant-splice-loop-item : goal.invariant-splice-loop-item
 invariant-splice-loop-item l =
-    in_front l.values (each_joined (spliced (expanded l.macros l.depth)) (drop l.item-index l.items) l.left) ≡ each_joined (spliced (expanded l.macros l.depth)) l.items l.initial.left
+    in_front l.forms (each_joined (spliced (expanded l.macros l.depth)) (drop l.item-index l.items) l.left) ≡ each_joined (spliced (expanded l.macros l.depth)) l.items l.initial.left
 
 abbrev pub invariant-map-loop-k : goal.invariant-map-loop-k
 invariant-map-loop-k l =
-    in_front l.values (results (expanded l.macros l.depth) l.of l.head l.args (range_with_len l.k (l.count - l.k)) l.left) ≡ in_front (beginning l.of) (results (expanded l.macros l.depth) l.of l.head l.args (range_with_len 0 l.count) l.initial.left)
+    in_front l.forms (results (expanded l.macros l.depth) l.of l.head l.args (range_with_len l.k (l.count - l.k)) l.left) ≡ in_front (beginning l.of) (results (expanded l.macros l.depth) l.of l.head l.args (range_with_len 0 l.count) l.initial.left)

@@ -1,4 +1,4 @@
-use Rattle.std.proofs.Common.{rules, ◌≡◌, Bool, true, false, refl, ◌∙◌, arith}
+use Rattle.std.proofs.Common.{rules, ◌≡◌, true, false, refl, ◌∙◌, arith}
 use Rattle.std.proofs.lemmas.Grind.{common_steps}
 use Rattle.std.specs.Cmp.Lexicographic.{pointwise}
 use Rattle.cg_pmacro.specs.Shapes.{same_form}
