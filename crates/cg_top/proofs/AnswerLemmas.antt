@@ -1,7 +1,6 @@
 -- What is answered where no fault came, and which cause a file that can't be read has.
-use Rattle.std.proofs.Common.{◌≡◌, ◌≢◌, ◌⊎◌, ℕ, List, [], ◌∷◌, Option, Some, None, Result, Ok, Err, refl, sym, ap, subst, ◌∙◌, inl, inr}
+use Rattle.std.proofs.Common.{◌≡◌, ◌≢◌, ◌⊎◌, ℕ, List, [], Option, Some, None, Result, Ok, Err, refl, sym, ap, subst, ◌∙◌, inl, inr}
 use Rattle.std.specs.Prelude.{MatchOption}
-use Rattle.cg_base.specs.declared.form.Forms.{Forms}
 use Rattle.cg_base.specs.declared.refusal.Refusal.{Refusal}
 use Rattle.cg_io.specs.Held.{Held}
 use Rattle.cg_top.specs.declared.asking.Asked.{Asked}
@@ -12,13 +11,12 @@ use Rattle.cg_top.specs.declared.gathering.Fetched.TheVariants.{Read, Refused, U
 use Rattle.cg_top.specs.declared.machine.Machine.{Machine}
 use Rattle.cg_top.specs.declared.replies.Reply.{Reply}
 use Rattle.cg_top.specs.Asking.{asked}
-use Rattle.cg_top.specs.Gathering.{IsLacking, Opens, no_sources, unread}
-use Rattle.cg_top.specs.Fetching.{IsFetched, IsUnreadable}
+use Rattle.cg_top.specs.Gathering.{Opens, no_sources}
+use Rattle.cg_top.specs.Fetching.{IsUnreadable}
 use Rattle.cg_top.specs.Loading.{loaded}
 use Rattle.cg_top.specs.Replies.{bad_words, performed, performed_on, reply_to}
 use Rattle.cg_top.specs.Answer.{Answers, Answer}
 use Rattle.cg_top.specs.Top.{IsUnread}
-use Rattle.cg_top.proofs.GatheringLemmas.{opens_more}
 use Rattle.cg_top.proofs.OneReading.{IsUnreadAt, opens_known, opens_told, one_opened}
 
 -- a file that can't be read makes the status 3

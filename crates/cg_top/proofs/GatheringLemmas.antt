@@ -6,7 +6,6 @@ use Rattle.cg_base.specs.declared.refusal.Refusal.{Refusal}
 use Rattle.cg_base.specs.Reading.{Reads, IsFault}
 use Rattle.cg_io.specs.Causes.{Rose}
 use Rattle.cg_io.specs.Held.{Held}
-use Rattle.cg_pmacro.specs.declared.tops.TheConstants.{SHORT_FORMS}
 use Rattle.cg_top.specs.declared.gathering.Fetched.{Fetched}
 use Rattle.cg_top.specs.declared.gathering.Fetched.TheVariants.{Read, Refused, Unread}
 use Rattle.cg_top.specs.declared.gathering.Sources.{Sources}

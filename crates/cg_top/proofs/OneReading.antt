@@ -1,6 +1,6 @@
 -- Over files that tell what they hold, a description is read in one way alone where no fault comes; and what is read is read
 -- without a fault, or a fault came and a file is unread.
-use Rattle.std.proofs.Common.{◌≡◌, ◌⊎◌, ◌≤◌, ◌<◌, ℕ, true, false, List, [], ◌∷◌, ◌++◌, map, length, Option, Some, None, refl, sym, ap, subst, ◌∙◌, inl, inr, arith}
+use Rattle.std.proofs.Common.{◌≡◌, ◌⊎◌, ◌≤◌, ℕ, List, [], ◌∷◌, ◌++◌, map, length, Option, Some, None, refl, sym, ap, subst, ◌∙◌, inl, inr, arith}
 use Rattle.cg_base.specs.declared.form.Top.{Top}
 use Rattle.cg_base.specs.declared.form.Forms.{Forms}
 use Rattle.cg_base.specs.declared.refusal.Refusal.{Refusal}
@@ -13,7 +13,7 @@ use Rattle.cg_top.specs.declared.gathering.Fetched.TheVariants.{Read, Refused, U
 use Rattle.cg_top.specs.declared.gathering.Sources.{Sources}
 use Rattle.cg_top.specs.declared.including.Include.{Include}
 use Rattle.cg_top.specs.Including.{is_short, parted}
-use Rattle.cg_top.specs.Gathering.{IsLacking, HasText, with_file, with_short, may_include, too_many, placed, behind, Opens, unread, refused, read, Gathers, whole, short, file, another}
+use Rattle.cg_top.specs.Gathering.{IsLacking, HasText, with_file, with_short, too_many, placed, behind, Opens, unread, refused, read, Gathers, whole, short, file, another}
 
 -- A file couldn't be read.
 abbrev pub IsUnreadAt : Fetched → Type 0

@@ -1,5 +1,5 @@
 -- What the definitions say of the rows, computed.
-use Rattle.std.proofs.Common.{◌≡◌, ◌∷◌, [], ℕ, List, Option, Some, None, refl}
+use Rattle.std.proofs.Common.{◌≡◌, ◌∷◌, [], None, refl}
 use Rattle.std.specs.Prelude.{codes}
 use Rattle.std.specs.Fmt.{digits}
 use Rattle.cg_top.specs.Asking.{asked, decode_asked}

@@ -1,5 +1,5 @@
 -- Short lists, an element at a time.
-use Rattle.std.proofs.Common.{◌≡◌, List, [], ◌∷◌, Option, Some, None, refl}
+use Rattle.std.proofs.Common.{◌≡◌, List, [], ◌∷◌, refl}
 use Rattle.std.specs.Option.{option_map}
 use Rattle.cg_base.specs.Parts.{only}
 use Rattle.cg_top.specs.Shape.{three, four}

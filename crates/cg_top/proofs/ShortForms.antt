@@ -1,10 +1,9 @@
 -- The text of the short forms has forms, so it has no fault.
-use Rattle.std.proofs.Common.{◌≡◌, ℕ, List, Result, Ok, Err, sym, subst}
+use Rattle.std.proofs.Common.{List, Result, Ok, Err, sym, subst}
 use Rattle.cg_base.specs.declared.form.Top.{Top}
 use Rattle.cg_base.specs.declared.refusal.Refusal.{Refusal}
 use Rattle.cg_base.specs.Grammar.{token}
-use Rattle.cg_base.specs.Reading.{ended, IsFault}
-use Rattle.cg_sexp.specs.Machine.{read_all}
+use Rattle.cg_base.specs.Reading.{IsFault}
 use Rattle.cg_sexp.specs.Laws.{fault_given}
 use Rattle.cg_pmacro.specs.declared.tops.TheConstants.{SHORT_FORMS}
 

@@ -1,9 +1,8 @@
 -- What the words of a command ask.
-use Rattle.std.specs.Prelude.{◌≡◌, ℕ, ◌+◌, ◌-◌, ◌*◌, Bool, true, false, ◌&&◌, nat_le, nat_eq, if◌then◌else◌, List, [], ◌∷◌, length, Option, Some, None, codes}
+use Rattle.std.specs.Prelude.{ℕ, ◌+◌, ◌-◌, ◌*◌, ◌&&◌, nat_le, if◌then◌else◌, List, [], ◌∷◌, length, Option, Some, None, codes}
 use Rattle.cg_base.specs.Parts.{◌>>=◌}
 use Rattle.cg_top.specs.Shape.{same, three}
 use Rattle.cg_top.specs.declared.asking.Asked.{Asked}
-use Rattle.cg_top.specs.declared.asking.Command.{Command}
 use Rattle.cg_top.specs.declared.asking.Command.TheVariants.{Decode}
 
 -- The number that a hexadecimal digit stands for.

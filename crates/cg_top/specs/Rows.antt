@@ -1,6 +1,5 @@
 -- A machine of one instruction, `(+ (f-op 1) f-rd f-rs (f-x 0))`: what the definitions say of it is computed in a test.
 use Rattle.std.specs.Prelude.{ℕ, List, [], ◌∷◌, Option, Some, None, codes}
-use Rattle.cg_top.specs.declared.machine.Field.{Field}
 use Rattle.cg_top.specs.declared.machine.Part.{Part}
 use Rattle.cg_top.specs.declared.machine.Insn.{Insn}
 use Rattle.cg_top.specs.declared.machine.Machine.{Machine}

@@ -1,5 +1,5 @@
 -- What stands in a form.
-use Rattle.std.specs.Prelude.{◌≡◌, ℕ, Bool, true, false, nat_eq, if◌then◌else◌, List, [], ◌∷◌, Option, Some, None, is_some, pos, negsuc, codes}
+use Rattle.std.specs.Prelude.{ℕ, Bool, true, false, nat_eq, if◌then◌else◌, List, [], ◌∷◌, Option, Some, None, is_some, codes}
 use Rattle.std.specs.Cmp.Lexicographic.{pointwise}
 use Rattle.cg_base.specs.declared.Form.{Form}
 use Rattle.cg_base.specs.Parts.{◌>>=◌, symbol_of, string_of, natural_of, elements_of, only}

@@ -1,10 +1,10 @@
 -- What a thin description says: an architecture of one machine, one ISA of 16 bits and one cpu, then fields, then
 -- instructions, each in its long form. Behind a name a comment and empty attributes may stand.
-use Rattle.std.specs.Prelude.{◌≡◌, ℕ, ◌+◌, ◌^◌, Bool, true, false, ◌&&◌, ◌||◌, nat_eq, nat_lt, nat_le, if◌then◌else◌, List, [], ◌∷◌, length, map, find, take, drop, count_by, take_while, Option, Some, None, is_some, is_none, codes}
+use Rattle.std.specs.Prelude.{ℕ, ◌+◌, ◌^◌, Bool, true, ◌&&◌, ◌||◌, nat_eq, nat_lt, nat_le, if◌then◌else◌, List, [], ◌∷◌, length, map, find, take, drop, count_by, Option, Some, None, is_some, is_none, codes}
 use Rattle.std.specs.List.{list_all, prefix_len}
 use Rattle.cg_base.specs.declared.form.Top.{Top}
 use Rattle.cg_base.specs.declared.Form.{Form, out-Form}
-use Rattle.cg_base.specs.declared.Form.TheOpen.{Form-F, Number, Symbol, Str, Flag, Items}
+use Rattle.cg_base.specs.declared.Form.TheOpen.{Symbol, Items}
 use Rattle.cg_top.specs.declared.machine.Field.{Field}
 use Rattle.cg_top.specs.declared.machine.Part.{Part}
 use Rattle.cg_top.specs.declared.machine.Insn.{Insn}

@@ -1,4 +1,4 @@
-use Rattle.std.proofs.Common.{rules, ◌≡◌, ap, sym, ◌∙◌, ◌++◌, ◌∷◌, List, ℕ, Option, Some}
+use Rattle.std.proofs.Common.{rules, ◌≡◌, ap, sym, ◌∙◌, ◌++◌, ◌∷◌, List, ℕ, Some}
 use Rattle.std.specs.Option.{option_map}
 use Rattle.cg_top.specs.Asking.{digit_of, bytes_of}
 use Rattle.cg_top.proofs.AskingLemmas.{bytes_of_more}

@@ -1,8 +1,5 @@
-use Rattle.std.proofs.Common.{rules, ◌≡◌, ◌⊎◌, inl, inr, refl}
-use Rattle.cg_io.specs.Causes.{Rose}
-use Rattle.cg_io.specs.Held.{Held}
+use Rattle.std.proofs.Common.{rules, ◌⊎◌, inl, inr, refl}
 use Rattle.cg_top.specs.Answer.{Answer}
-use Rattle.cg_top.specs.Top.{IsUnread}
 use Rattle.cg_top.proofs.AnswerLemmas.{unread_cause, unread_answered, answer_known}
 use Rattle.cg_top.proofs.top.cgen.Goals as goal
 
