@@ -5,6 +5,8 @@ mod arguments;
 mod body;
 mod built_in;
 mod calls;
+#[cfg(test)]
+mod cases;
 mod expander;
 mod fault;
 mod laws;

@@ -1,5 +1,6 @@
 //! Cases of expansion, each a text and what it comes to.
 
+use crate::cases::BUILT_INS;
 use crate::expand;
 use cg_base::{Form, Forms, List, NoMemory, Stop, Text, Top, decimal};
 use std::alloc::Global;
@@ -309,6 +310,21 @@ const CASES: [(&[u8], &[u8]); 57] = [
 fn expands(rt: HostRuntime) -> Result<(), Fail> {
     let alloc = rt.alloc();
     for (text, wanted) in &CASES {
+        let got = outcome(alloc, text)?;
+        assert!(rt;
+            got.as_slice() == *wanted,
+            "{:?} {:?}",
+            text,
+            got.as_slice()
+        );
+    }
+    Ok(())
+}
+
+#[test]
+fn built_ins_answer(rt: HostRuntime) -> Result<(), Fail> {
+    let alloc = rt.alloc();
+    for (text, wanted) in &BUILT_INS {
         let got = outcome(alloc, text)?;
         assert!(rt;
             got.as_slice() == *wanted,
