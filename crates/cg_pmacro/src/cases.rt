@@ -1,8 +1,11 @@
 //! What each built-in macro gives and how it is refused, and how definitions and calls are:
 //! texts, and what they expand to.
 
-/// A text and what it comes to.
-pub static BUILT_INS: [(&[u8], &[u8]); 168] = [
+/// A text, and what it comes to.
+type Case = (&'static [u8], &'static [u8]);
+
+/// Built-in macros that make texts, and `.error`.
+pub static TEXTS: [Case; 29] = [
     (b"(.sym) (.sym a \"b\" 3 -4)", b"1 ;1 ab3-4;"),
     (b"(.sym (a))", b"E202 1 .sym"),
     (b"(.sym #t)", b"E202 1 .sym"),
@@ -29,6 +32,13 @@ pub static BUILT_INS: [(&[u8], &[u8]); 168] = [
     (b"(.substring abc -1 2)", b"E202 1 .substring"),
     (b"(.substring 5 0 1)", b"E202 1 .substring"),
     (b"(.substring abc x 1)", b"E202 1 .substring"),
+    (b"(.error a 1 \"b\")", b"E205 1 a1b"),
+    (b"(.error (a))", b"E202 1 .error"),
+    (b"(.error #f)", b"E202 1 .error"),
+];
+
+/// Built-in macros that make lists and look into them.
+pub static LISTS: [Case; 29] = [
     (b"(.splice)", b"1 ();"),
     (
         b"(.splice a (.unsplice (b c)) (.list d))",
@@ -46,6 +56,25 @@ pub static BUILT_INS: [(&[u8], &[u8]); 168] = [
     (b"(.iota 0)", b"1 ();"),
     (b"(.iota 3 5)", b"1 (5 6 7);"),
     (b"(.iota 3 5 -2)", b"1 (5 3 1);"),
+    (b"(.list)", b"1 ();"),
+    (b"(.list a \"b\" (c) 1 #t)", b"1 (a \"b\" (c) 1 #t);"),
+    (b"(.ref)", b"E201 1 .ref"),
+    (b"(.ref (a))", b"E201 1 .ref"),
+    (b"(.ref (a) 0 1)", b"E201 1 .ref"),
+    (b"(.ref a 0)", b"E202 1 .ref"),
+    (b"(.ref (a b) 1)", b"1 b;"),
+    (b"(.ref (a) -1)", b"E202 1 .ref"),
+    (b"(.ref (a) x)", b"E202 1 .ref"),
+    (b"(.length)", b"E201 1 .length"),
+    (b"(.length a b)", b"E201 1 .length"),
+    (b"(.length ())", b"1 0;"),
+    (b"(.length abc)", b"1 3;"),
+    (b"(.length \"ab\")", b"1 2;"),
+    (b"(.length 5)", b"E202 1 .length"),
+];
+
+/// Built-in macros that call a macro, and `.pmacro`.
+pub static CALLS: [Case; 24] = [
     (b"(.map)", b"E201 1 .map"),
     (b"(.map .list)", b"E201 1 .map"),
     (b"(.map nothing (a))", b"E202 1 .map"),
@@ -70,6 +99,10 @@ pub static BUILT_INS: [(&[u8], &[u8]); 168] = [
     (b"((.pmacro a b) 1)", b"E202 1 .pmacro"),
     (b"((.pmacro (a) a) 1 2)", b"E201 1 .pmacro"),
     (b"((.pmacro (a b) (b a)) 1 2)", b"1 (2 1);"),
+];
+
+/// Built-in macros that expand only what they take.
+pub static CHOICES: [Case; 30] = [
     (b"(.let)", b"E201 1 .let"),
     (b"(.let ())", b"E201 1 .let"),
     (b"(.let () 1 2)", b"E201 1 .let"),
@@ -100,21 +133,10 @@ pub static BUILT_INS: [(&[u8], &[u8]); 168] = [
     (b"(.case a (b c))", b"E202 1 .case"),
     (b"(.case a ((a)))", b"E202 1 .case"),
     (b"(.case a ((\"a\") b) (else c))", b"1 c;"),
-    (b"(.list)", b"1 ();"),
-    (b"(.list a \"b\" (c) 1 #t)", b"1 (a \"b\" (c) 1 #t);"),
-    (b"(.ref)", b"E201 1 .ref"),
-    (b"(.ref (a))", b"E201 1 .ref"),
-    (b"(.ref (a) 0 1)", b"E201 1 .ref"),
-    (b"(.ref a 0)", b"E202 1 .ref"),
-    (b"(.ref (a b) 1)", b"1 b;"),
-    (b"(.ref (a) -1)", b"E202 1 .ref"),
-    (b"(.ref (a) x)", b"E202 1 .ref"),
-    (b"(.length)", b"E201 1 .length"),
-    (b"(.length a b)", b"E201 1 .length"),
-    (b"(.length ())", b"1 0;"),
-    (b"(.length abc)", b"1 3;"),
-    (b"(.length \"ab\")", b"1 2;"),
-    (b"(.length 5)", b"E202 1 .length"),
+];
+
+/// Built-in macros that reckon.
+pub static NUMBERS: [Case; 14] = [
     (b"(.add 1)", b"E201 1 .add"),
     (b"(.add 1 2 3)", b"E201 1 .add"),
     (b"(.add 1 x)", b"E202 1 .add"),
@@ -129,6 +151,10 @@ pub static BUILT_INS: [(&[u8], &[u8]); 168] = [
     (b"(.mul 1 (2))", b"E202 1 .mul"),
     (b"(.mul -3 4)", b"1 -12;"),
     (b"(.mul 4294967296 4294967296)", b"E202 1 .mul"),
+];
+
+/// Built-in macros that give a flag.
+pub static TESTS: [Case; 27] = [
     (b"(.eq a)", b"E201 1 .eq"),
     (b"(.eq a b c)", b"E201 1 .eq"),
     (b"(.eq a \"a\")", b"1 #f;"),
@@ -156,9 +182,10 @@ pub static BUILT_INS: [(&[u8], &[u8]); 168] = [
     (b"(.not a b)", b"E201 1 .not"),
     (b"(.not #f)", b"1 #t;"),
     (b"(.not ())", b"1 #f;"),
-    (b"(.error a 1 \"b\")", b"E205 1 a1b"),
-    (b"(.error (a))", b"E202 1 .error"),
-    (b"(.error #f)", b"E202 1 .error"),
+];
+
+/// Definitions, calls of what they define, and heads that name nothing.
+pub static DEFINITIONS: [Case; 15] = [
     (b"(define-pmacro (f a a) a)", b"E202 1 f"),
     (b"(define-pmacro (f 1) a)", b"E202 1 f"),
     (b"(define-pmacro f 1)\n(define-pmacro f 2)", b"E206 2 f"),

@@ -1,6 +1,6 @@
 //! Cases of expansion, each a text and what it comes to.
 
-use crate::cases::BUILT_INS;
+use crate::cases::{CALLS, CHOICES, DEFINITIONS, LISTS, NUMBERS, TESTS, TEXTS};
 use crate::expand;
 use cg_base::{Form, Forms, List, NoMemory, Stop, Text, Top, decimal};
 use std::alloc::Global;
@@ -321,17 +321,61 @@ fn expands(rt: HostRuntime) -> Result<(), Fail> {
     Ok(())
 }
 
-#[test]
-fn built_ins_answer(rt: HostRuntime) -> Result<(), Fail> {
-    let alloc = rt.alloc();
-    for (text, wanted) in &BUILT_INS {
-        let got = outcome(alloc, text)?;
-        assert!(rt;
-            got.as_slice() == *wanted,
-            "{:?} {:?}",
-            text,
-            got.as_slice()
-        );
+/// Whether each text expands to what it is said to.
+fn are_answered(alloc: Global, cases: &[(&[u8], &[u8])]) -> Result<bool, NoMemory> {
+    for (text, wanted) in cases {
+        if outcome(alloc, text)?.as_slice() != *wanted {
+            return Ok(false);
+        }
     }
+    Ok(true)
+}
+
+#[test]
+fn texts_are_made(rt: HostRuntime) -> Result<(), Fail> {
+    let alloc = rt.alloc();
+    assert!(rt; are_answered(alloc, &TEXTS)?);
+    Ok(())
+}
+
+#[test]
+fn lists_are_made(rt: HostRuntime) -> Result<(), Fail> {
+    let alloc = rt.alloc();
+    assert!(rt; are_answered(alloc, &LISTS)?);
+    Ok(())
+}
+
+#[test]
+fn macros_are_called(rt: HostRuntime) -> Result<(), Fail> {
+    let alloc = rt.alloc();
+    assert!(rt; are_answered(alloc, &CALLS)?);
+    Ok(())
+}
+
+#[test]
+fn choices_are_made(rt: HostRuntime) -> Result<(), Fail> {
+    let alloc = rt.alloc();
+    assert!(rt; are_answered(alloc, &CHOICES)?);
+    Ok(())
+}
+
+#[test]
+fn numbers_are_reckoned(rt: HostRuntime) -> Result<(), Fail> {
+    let alloc = rt.alloc();
+    assert!(rt; are_answered(alloc, &NUMBERS)?);
+    Ok(())
+}
+
+#[test]
+fn flags_are_given(rt: HostRuntime) -> Result<(), Fail> {
+    let alloc = rt.alloc();
+    assert!(rt; are_answered(alloc, &TESTS)?);
+    Ok(())
+}
+
+#[test]
+fn definitions_are_judged(rt: HostRuntime) -> Result<(), Fail> {
+    let alloc = rt.alloc();
+    assert!(rt; are_answered(alloc, &DEFINITIONS)?);
     Ok(())
 }
