@@ -7,4 +7,8 @@ pub mod Grammar
 pub mod Faults
 pub mod Reading
 pub mod Printing
+pub mod Texts
+pub mod ModeWords
 pub mod Parts
+pub mod Refusing
+pub mod Answering

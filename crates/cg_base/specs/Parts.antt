@@ -1,8 +1,8 @@
 -- What stands in a form.
-use Rattle.std.specs.Prelude.{ℕ, ℤ, pos, Bool, false, ◌==◌, List, [], ◌∷◌, drop, Option, Some, None, is_some, find}
-use Rattle.std.specs.Cmp.Lexicographic.{pointwise}
+use Rattle.std.specs.Prelude.{ℕ, ℤ, pos, Bool, false, List, [], ◌∷◌, drop, Option, Some, None, is_some, find}
 use Rattle.cg_base.specs.declared.form.Form.{Form, out-Form}
 use Rattle.cg_base.specs.declared.form.Form.TheOpen.{Form-F, Number, Symbol, Str, Flag, Items}
+use Rattle.cg_base.specs.Texts.{same_text}
 
 -- What follows where there is a value.
 infixl 10 ◌>>=◌
@@ -92,7 +92,7 @@ headed f = elements_of f >>= headed_in
 -- The form is a list headed by this symbol.
 abbrev pub heads : List ℕ → Option Headed → Bool
 heads name None = false
-heads name (Some x) = pointwise ◌==◌ x.0 name
+heads name (Some x) = same_text x.0 name
 
 abbrev pub is_headed : List ℕ → Form → Bool
 is_headed name f = heads name (headed f)

@@ -5,8 +5,6 @@ use Rattle.cg_base.specs.declared.form.Form.{Form}
 use Rattle.cg_base.specs.declared.form.Top.{Top}
 use Rattle.cg_base.specs.declared.form.Forms.{Forms}
 use Rattle.cg_base.specs.declared.refusal.Refusal.{Refusal}
-use Rattle.cg_base.specs.declared.refusal.Stop.{Stop}
-use Rattle.cg_base.specs.declared.refusal.Stop.TheVariants.{Refused, NoMemory}
 use Rattle.cg_base.specs.Grammar.{Spells}
 use Rattle.cg_base.specs.Faults.{Faults}
 
@@ -28,8 +26,3 @@ pub record Reads (bytes : List ℕ) (file : ℕ) (answer : Forms) : Type 0 where
 -- This is the refusal of the first fault in the text.
 abbrev pub IsFault : List ℕ → ℕ → Refusal → Type 0
 IsFault bytes file refusal = Faults file [] 1 (ended bytes) refusal
-
--- The refusal is that of the first fault. Memory may run out.
-abbrev pub IsNotRead : Stop → List ℕ → ℕ → Type 0
-IsNotRead NoMemory bytes file = Unit {0}
-IsNotRead (Refused refusal) bytes file = IsFault bytes file refusal

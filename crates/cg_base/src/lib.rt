@@ -3,25 +3,29 @@
 
 mod arithmetic;
 mod bytes;
+mod fault;
 mod form;
 mod kind;
 mod list;
 mod mode;
+mod mode_words;
 mod number;
 mod operation;
 mod parts;
 mod refusal;
-#[cfg(test)]
-mod tests;
 mod text;
 
 pub use bytes::{number_at, put_number};
+pub use fault::{Fault, refusal_at, stop_at};
 pub use form::{Form, Forms, Top};
 pub use kind::{Kind, NoToken};
 pub use list::List;
 pub use mode::{Endian, Mode, bits, signed};
+pub use mode_words::{gives_mode, is_among, is_mode, is_value_mode};
 pub use number::{decimal, hex, read_digits, read_number};
 pub use operation::{BinaryOp, DivideByZero, TernaryOp, UnaryOp, binary, convert, ternary, unary};
-pub use parts::{are_symbols, only, only_flag, only_natural, only_number, only_symbol, only_word};
+pub use parts::{
+    are_symbols, headed_in, only, only_flag, only_natural, only_number, only_symbol, only_word,
+};
 pub use refusal::{NoMemory, Refusal, Stop};
 pub use text::Text;

@@ -106,8 +106,9 @@ impl Form {
     }
 }
 
-/// The symbol that heads these elements of a list, and the elements behind it.
-fn headed_in(elements: &[Form]) -> Option<(&Text, &[Form])>
+/// The symbol that heads these elements of a list, and the elements behind it. None exactly where
+/// there is no element, or the first is no symbol.
+pub fn headed_in(elements: &[Form]) -> Option<(&Text, &[Form])>
     ensures { option_map (λ x. (x.0.now, x.1.now)) result ≡ headed_in elements.now }
 {
     let (head, rest) = elements.split_first()?;

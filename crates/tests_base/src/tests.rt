@@ -2,7 +2,7 @@ ghost use Rattle.std.specs.Prelude.{◌≡◌, ◌^◌, ◌<◌, nat_lt, IsTrue,
 ghost use Rattle.cg_base.specs.Modes.{bits_of};
 ghost use Rattle.cg_base.specs.Operations.{takes_count};
 
-use crate::{
+use cg_base::{
     BinaryOp, DivideByZero, Endian, List, Mode, TernaryOp, Text, UnaryOp, binary, bits, convert,
     decimal, hex, number_at, put_number, read_number, ternary, unary,
 };
