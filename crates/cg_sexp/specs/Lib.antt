@@ -1,10 +1,15 @@
+-- What contracts of public functions cite stands in `cg_base`: the grammar, the faults of a text, what it reads as, how forms
+-- are written. Here are the steps of proofs: a machine that reads byte by byte, and why it gives just what the grammar says.
+
+-- the machine that private functions follow
 pub mod Machine
 pub mod Held
-pub mod Refused
+-- the laws between the grammar and the machine; `Laws` has what the proof of `read` cites
 pub mod Taken
 pub mod Stops
 pub mod Front
 pub mod Sound
 pub mod Laws
+-- why what is printed reads as the form again; `Last` has what the proof of `print` cites
 pub mod Printed
 pub mod Last

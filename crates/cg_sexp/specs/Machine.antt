@@ -8,7 +8,8 @@ use Rattle.cg_base.specs.declared.form.Form.TheVariants.{Str, Items}
 use Rattle.cg_base.specs.declared.form.Top.{Top}
 use Rattle.cg_base.specs.declared.refusal.Refusal.{Refusal}
 use Rattle.cg_base.specs.Grammar.{kind_of, is_letter, is_string_byte, escape, token, next_line}
-use Rattle.cg_base.specs.Faults.{refusal, hex_byte, refused_as}
+use Rattle.cg_base.specs.Refusing.{refusal_at}
+use Rattle.cg_base.specs.Faults.{hex_byte, refused_as}
 use Rattle.cg_base.specs.Reading.{top}
 use Rattle.cg_sexp.specs.declared.stack.Open.{Open}
 use Rattle.cg_sexp.specs.declared.reader.Mode.{Mode}
@@ -41,11 +42,11 @@ abbrev pub pushed : ℕ → Nest → Nest
 pushed l n = record { file = n.file; tops = n.tops; lists = record { forms = []; line = l } ∷ n.lists }
 
 abbrev pub opened : ℕ → Nest → Result Nest Refusal
-opened l n = if nat_lt (length n.lists) 200 then Ok (pushed l n) else Err (refusal n.file 105 l (codes "200"))
+opened l n = if nat_lt (length n.lists) 200 then Ok (pushed l n) else Err (refusal_at n.file l (105, codes "200"))
 
 -- The innermost list ends on line l.
 abbrev pub closed_in : ℕ → List Top → List Open → ℕ → Result Nest Refusal
-closed_in file tops [] l = Err (refusal file 103 l (codes ")"))
+closed_in file tops [] l = Err (refusal_at file l (103, codes ")"))
 closed_in file tops (o ∷ os) l = Ok (put_in file tops os (Items o.forms) o.line)
 
 abbrev pub closed : ℕ → Nest → Result Nest Refusal
@@ -54,7 +55,7 @@ closed l n = closed_in n.file n.tops n.lists l
 -- The text ends.
 abbrev pub whole_in : ℕ → List Top → List Open → Result (List Top) Refusal
 whole_in file tops [] = Ok tops
-whole_in file tops (o ∷ os) = Err (refusal file 102 o.line (codes "list"))
+whole_in file tops (o ∷ os) = Err (refusal_at file o.line (102, codes "list"))
 
 abbrev pub whole : Nest → Result (List Top) Refusal
 whole n = whole_in n.file n.tops n.lists
@@ -84,7 +85,7 @@ in_comment l n = record { mode = Comment; held = []; line = l; nest = n }
 -- The token on line l stands for this form, or for none.
 abbrev pub read_as : Result Form NoToken → List ℕ → ℕ → Nest → Result Nest Refusal
 read_as (Ok f) held l n = Ok (put f l n)
-read_as (Err fault) held l n = Err (refusal n.file (refused_as fault) l held)
+read_as (Err fault) held l n = Err (refusal_at n.file l (refused_as fault, held))
 
 -- A token ends, if there is one.
 abbrev pub settled : List ℕ → ℕ → Nest → Result Nest Refusal
@@ -98,7 +99,7 @@ apart Opening b l n = and_then (λ m. Ok (between l m)) (opened l n)
 apart Closing b l n = and_then (λ m. Ok (between l m)) (closed l n)
 apart Quote b l n = Ok (in_string l [] l n)
 apart Semicolon b l n = Ok (in_comment l n)
-apart _ b l n = Err (refusal n.file 101 l (hex_byte b))
+apart _ b l n = Err (refusal_at n.file l (101, hex_byte b))
 
 abbrev pub outside_step : List ℕ → ℕ → ℕ → Nest → Result State Refusal
 outside_step held b l n =
@@ -110,12 +111,12 @@ string_step start held b l n =
     if b == 34 then Ok (between l (put (Str held) start n))
     else if b == 92 then Ok (in_escape start held l n)
     else if is_string_byte b then Ok (in_string start (held ++ b ∷ []) (next_line l b) n)
-    else Err (refusal n.file 101 l (hex_byte b))
+    else Err (refusal_at n.file l (101, hex_byte b))
 
 -- `\` and byte b stand for these bytes, or for none.
 abbrev pub escape_as : Option (List ℕ) → ℕ → List ℕ → ℕ → ℕ → Nest → Result State Refusal
 escape_as (Some m) start held b l n = Ok (in_string start (held ++ m) (next_line l b) n)
-escape_as None start held b l n = Err (refusal n.file 101 l (hex_byte 92))
+escape_as None start held b l n = Err (refusal_at n.file l (101, hex_byte 92))
 
 abbrev pub escape_step : ℕ → List ℕ → ℕ → ℕ → Nest → Result State Refusal
 escape_step start held b l n = escape_as (escape b) start held b l n
@@ -128,7 +129,7 @@ step s b = elim s.mode [ Outside ↦ outside_step s.held b s.line s.nest | Quote
 
 -- The text ends.
 abbrev pub finish : State → Result (List Top) Refusal
-finish s = elim s.mode [ Outside ↦ and_then whole (settled s.held s.line s.nest) | Quoted start ↦ Err (refusal s.nest.file 102 start (codes "string")) | Escaping start ↦ Err (refusal s.nest.file 102 start (codes "string")) | Comment ↦ whole s.nest ]
+finish s = elim s.mode [ Outside ↦ and_then whole (settled s.held s.line s.nest) | Quoted start ↦ Err (refusal_at s.nest.file start (102, codes "string")) | Escaping start ↦ Err (refusal_at s.nest.file start (102, codes "string")) | Comment ↦ whole s.nest ]
 
 abbrev pub ends : State → List ℕ → Result (List Top) Refusal
 ends s [] = finish s

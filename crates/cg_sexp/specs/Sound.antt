@@ -8,7 +8,8 @@ use Rattle.cg_base.specs.declared.form.Form.TheVariants.{Items}
 use Rattle.cg_base.specs.declared.form.Top.{Top}
 use Rattle.cg_base.specs.declared.refusal.Refusal.{Refusal}
 use Rattle.cg_base.specs.Grammar.{Spells, done, space, leaf, list, IsSpace, IsLeaf, word, quoted, starts_token, line_after}
-use Rattle.cg_base.specs.Faults.{Offends, open_list, no_list_is_open, too_deep, Faults, here, behind_space, behind_leaf, behind_opening, behind_closing, refusal}
+use Rattle.cg_base.specs.Refusing.{refusal_at}
+use Rattle.cg_base.specs.Faults.{Offends, open_list, no_list_is_open, too_deep, Faults, here, behind_space, behind_leaf, behind_opening, behind_closing}
 use Rattle.cg_sexp.specs.declared.stack.Open.{Open}
 use Rattle.cg_sexp.specs.Machine.{and_then, Nest, put, pushed, closed, closed_in, whole, whole_in, between, ends}
 use Rattle.cg_sexp.specs.Taken.{line_after-append, space_taken, leaf_taken, puts, put_depth, list_closed}
@@ -99,8 +100,8 @@ at_end d k l n h = from d h n.lists refl where
   from (suc d) h [] e = absurd (let g = sym h ∙ ap (λ (ys : List Open). length ys) e in cc)
   from d h (x ∷ xs) e =
       let P : Result (List Top) Refusal → Type 0 = λ r. Meets d k l n [] r in
-      let g : whole n ≡ Err (refusal n.file 102 x.line (codes "list")) = ap (whole_in n.file n.tops) e in
-      let Q : List ℕ → Type 0 = λ os. Faults n.file os l [] (refusal n.file 102 x.line (codes "list")) in
+      let g : whole n ≡ Err (refusal_at n.file x.line (102, codes "list")) = ap (whole_in n.file n.tops) e in
+      let Q : List ℕ → Type 0 = λ os. Faults n.file os l [] (refusal_at n.file x.line (102, codes "list")) in
       subst P (sym g) (subst Q (sym (ap lines_of e)) (here open_list))
 
 at_list : (m : ℕ) → Shown m → (rest : List ℕ) → length rest ≤ m → line_ends true rest ≡ true → (d k l : ℕ) (n : Nest) → length n.lists ≡ d → d + k ≡ 200 → Meets d k l n (40 ∷ rest) (ends (between l n) (40 ∷ rest))
@@ -129,7 +130,7 @@ at_close m shown rest short ended d k l n h g = from d h g n.lists refl where
   from : (d : ℕ) → length n.lists ≡ d → d + k ≡ 200 → (xs : List Open) → n.lists ≡ xs → Meets d k l n (41 ∷ rest) (ends (between l n) (41 ∷ rest))
   from d h g [] e =
       let P : Result (List Top) Refusal → Type 0 = λ r. Meets d k l n (41 ∷ rest) r in
-      let Q : List ℕ → Type 0 = λ os. Faults n.file os l (41 ∷ rest) (refusal n.file 103 l (codes ")")) in
+      let Q : List ℕ → Type 0 = λ os. Faults n.file os l (41 ∷ rest) (refusal_at n.file l (103, codes ")")) in
       subst P (sym (offence_stops n no_list_is_open (ap lines_of e))) (subst Q (sym (ap lines_of e)) (here no_list_is_open))
   from zero h g (x ∷ xs) e = absurd (let q = sym h ∙ ap (λ (ys : List Open). length ys) e in cc)
   from (suc d) h g (x ∷ xs) e =

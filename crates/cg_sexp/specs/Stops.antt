@@ -8,7 +8,8 @@ use Rattle.cg_base.specs.declared.form.Form.TheVariants.{Items}
 use Rattle.cg_base.specs.declared.form.Top.{Top}
 use Rattle.cg_base.specs.declared.refusal.Refusal.{Refusal}
 use Rattle.cg_base.specs.Grammar.{is_string_byte, line_after}
-use Rattle.cg_base.specs.Faults.{Offends, foreign_byte, no_token, foreign_in_string, no_escape, open_string, open_list, no_list_is_open, too_deep, Faults, here, behind_space, behind_leaf, behind_opening, behind_closing, refusal}
+use Rattle.cg_base.specs.Refusing.{refusal_at}
+use Rattle.cg_base.specs.Faults.{Offends, foreign_byte, no_token, foreign_in_string, no_escape, open_string, open_list, no_list_is_open, too_deep, Faults, here, behind_space, behind_leaf, behind_opening, behind_closing}
 use Rattle.cg_sexp.specs.declared.stack.Open.{Open}
 use Rattle.cg_sexp.specs.Machine.{and_then, Nest, put, pushed, put_in, closed_in, whole_in, between, in_string, escape_as, ends}
 use Rattle.cg_sexp.specs.Taken.{letters_held, token_faults, string_held, space_taken, leaf_taken}
@@ -37,11 +38,11 @@ put_file f l n = from n.file n.tops n.lists where
 no_quote : (b : ℕ) → is_string_byte b ≡ false → ((b == 34) ≡ false) × ((b == 92) ≡ false)
 no_quote b h = grind (arith, nat_tests)
 
-whole_open : (file : ℕ) (tops : List Top) (xs : List Open) (o : ℕ) (os : List ℕ) → lines_of xs ≡ o ∷ os → whole_in file tops xs ≡ Err (refusal file 102 o (codes "list"))
+whole_open : (file : ℕ) (tops : List Top) (xs : List Open) (o : ℕ) (os : List ℕ) → lines_of xs ≡ o ∷ os → whole_in file tops xs ≡ Err (refusal_at file o (102, codes "list"))
 whole_open file tops [] o os e = absurd cc
 whole_open file tops (x ∷ xs) o os e = cc
 
-closed_none : (file : ℕ) (tops : List Top) (xs : List Open) (l : ℕ) → lines_of xs ≡ [] → closed_in file tops xs l ≡ Err (refusal file 103 l (codes ")"))
+closed_none : (file : ℕ) (tops : List Top) (xs : List Open) (l : ℕ) → lines_of xs ≡ [] → closed_in file tops xs l ≡ Err (refusal_at file l (103, codes ")"))
 closed_none file tops [] l e = refl
 closed_none file tops (x ∷ xs) l e = absurd cc
 

@@ -9,7 +9,8 @@ use Rattle.cg_base.specs.declared.form.Form.{Form}
 use Rattle.cg_base.specs.declared.form.Form.TheVariants.{Str, Items}
 use Rattle.cg_base.specs.declared.form.Top.{Top}
 use Rattle.cg_base.specs.Grammar.{Spells, done, space, leaf, list, IsSpace, blank, comment, IsLeaf, word, quoted, Written, empty, byte, escaped, kind_of, AreLetters, starts_token, token, IsInOneLine, next_line, line_after}
-use Rattle.cg_base.specs.Faults.{refusal, refused_as}
+use Rattle.cg_base.specs.Refusing.{refusal_at}
+use Rattle.cg_base.specs.Faults.{refused_as}
 use Rattle.cg_sexp.specs.declared.stack.Open.{Open}
 use Rattle.cg_sexp.specs.Machine.{and_then, Nest, put, pushed, closed, put_in, held_by, outside, between, in_string, in_comment, read_as, settled, escape_as, ends}
 
@@ -31,7 +32,7 @@ one_line l (b ∷ c) h = rw h.0 (one_line l c h.1)
 settled_form : (b : ℕ) (v : List ℕ) (l : ℕ) (n : Nest) (f : Form) → token (b ∷ v) ≡ Ok f → settled (b ∷ v) l n ≡ Ok (put f l n)
 settled_form b v l n f at = ap (λ r. read_as r (b ∷ v) l n) at
 
-settled_fault : (b : ℕ) (v : List ℕ) (l : ℕ) (n : Nest) (fault : NoToken) → token (b ∷ v) ≡ Err fault → settled (b ∷ v) l n ≡ Err (refusal n.file (refused_as fault) l (b ∷ v))
+settled_fault : (b : ℕ) (v : List ℕ) (l : ℕ) (n : Nest) (fault : NoToken) → token (b ∷ v) ≡ Err fault → settled (b ∷ v) l n ≡ Err (refusal_at n.file l (refused_as fault, b ∷ v))
 settled_fault b v l n fault at = ap (λ r. read_as r (b ∷ v) l n) at
 
 no_empty_token : {f : Form} → token [] ≡ Ok f → ⊥
@@ -50,7 +51,7 @@ token_ends b v l n f at [] s = rw (settled_form b v l n f at)
 token_ends b v l n f at (c ∷ rest) s = rw (s, settled_form b v l n f at)
 
 pub token_faults : (b : ℕ) (v : List ℕ) (l : ℕ) (n : Nest) (fault : NoToken) → token (b ∷ v) ≡ Err fault → (rest : List ℕ) → starts_token rest ≡ false →
-    ends (outside (b ∷ v) l n) rest ≡ Err (refusal n.file (refused_as fault) l (b ∷ v))
+    ends (outside (b ∷ v) l n) rest ≡ Err (refusal_at n.file l (refused_as fault, b ∷ v))
 token_faults b v l n fault at [] s = rw (settled_fault b v l n fault at)
 token_faults b v l n fault at (c ∷ rest) s = rw (s, settled_fault b v l n fault at)
 

@@ -1,7 +1,8 @@
-ghost use Rattle.std.specs.Prelude.{◌≡◌, ◌⊎◌, List as Listed, ℕ, IfOk, IfErr};
+ghost use Rattle.std.specs.Prelude.{◌≡◌, ◌⊎◌, List as Listed, ℕ};
 ghost use Rattle.cg_base.specs.declared.form.Forms.{Forms as Formed};
 ghost use Rattle.cg_base.specs.declared.refusal.Refusal.{Refusal as Refused};
-ghost use Rattle.cg_base.specs.Reading.{Reads, IsFault, IsNotRead};
+ghost use Rattle.cg_base.specs.Answering.{Answered};
+ghost use Rattle.cg_base.specs.Reading.{Reads, IsFault};
 
 use crate::reader::read_all;
 use cg_base::{Forms, Stop};
@@ -11,8 +12,7 @@ use std::alloc::Global;
 /// first fault in the text, E101 to E105 (docs/LANGUAGE.md, "Texts and forms"; docs/REFUSALS.md).
 #[tactic(auto, using(crate::specs::Laws::list_found, crate::specs::Laws::fault_found))]
 pub fn read(alloc: Global, bytes: &[u8], file: u16) -> Result<Forms, Stop>
-    ensures found { IfOk result (Reads bytes.now file) }
-    ensures refused { IfErr result (λ stop. IsNotRead stop bytes.now file) }
+    ensures { Answered (Reads bytes.now file) (IsFault bytes.now file) result }
 {
     let tops = read_all(alloc, bytes, file)?;
     Ok(Forms { tops })

@@ -13,6 +13,3 @@ mod token;
 pub use clauses::clause;
 pub use forms::{one_reading, read};
 pub use printing::print;
-
-#[cfg(test)]
-mod tests;

@@ -1,13 +1,14 @@
-ghost use Rattle.std.specs.Prelude.{◌≡◌, [], OnOk};
+ghost use Rattle.std.specs.Prelude.{◌≡◌, [], ◌∷◌, OnOk};
 ghost use Rattle.cg_base.specs.Grammar.{kind_of};
-ghost use Rattle.cg_base.specs.Faults.{refusal, hex_byte};
+ghost use Rattle.cg_base.specs.Answering.{Stops, Gives, leaving};
+ghost use Rattle.cg_base.specs.Faults.{hex_byte};
+ghost use Rattle.cg_base.specs.Refusing.{refusal_at};
 ghost use Rattle.cg_base.specs.Reading.{ended};
-ghost use Rattle.cg_sexp.specs.Refused.{IsRefusal};
-ghost use Rattle.cg_sexp.specs.Machine.{apart, settled, outside_step, string_step, escape_step, comment_step, step, finish, whole, read_all};
-ghost use Rattle.cg_sexp.specs.Held.{nest_of, state_of, Gives, Answers};
+ghost use Rattle.cg_sexp.specs.Machine.{apart, settled, outside_step, string_step, escape_step, comment_step, step, finish, ends, whole, read_all};
+ghost use Rattle.cg_sexp.specs.Held.{nest_of, state_of};
 
 use crate::kind::{is_string_byte, kind_at, next_line};
-use crate::refused::{refused, refused_byte};
+use crate::refused::refused_byte;
 use crate::stack::Stack;
 use crate::token::{form_of, refused_as};
 use cg_base::{Form, Kind, List, Stop, Text, Top};
@@ -39,7 +40,7 @@ pub struct Reader {
 impl Reader {
     /// Ends the token, if there is one.
     fn settle(&mut self) -> Result<(), Stop>
-        ensures nest { Gives result (nest_of self.new.stack) (settled self.old.held self.old.line (nest_of self.old.stack)) }
+        ensures nest { Gives (settled self.old.held self.old.line (nest_of self.old.stack)) (leaving (nest_of self.new.stack) result) }
         ensures rest { OnOk result (self.new ≡ record self.old { held = []; stack = self.new.stack }) }
     {
         if self.held.len() == 0 {
@@ -51,13 +52,10 @@ impl Reader {
                 self.held.clear();
                 Ok(())
             }
-            Err(fault) => Err(refused(
-                self.stack.alloc,
-                self.stack.file,
-                refused_as(fault),
-                self.line,
-                self.held.as_slice(),
-            )),
+            Err(fault) => Err(
+                self.stack
+                    .refused(self.line, refused_as(fault), self.held.as_slice()),
+            ),
         }
     }
 
@@ -65,7 +63,7 @@ impl Reader {
     fn apart(&mut self, byte: u8) -> Result<(), Stop>
         requires mode { self.old.mode ≡ Mode.Outside }
         requires held { self.old.held ≡ [] }
-        ensures { Gives result (state_of self.new) (apart (kind_of byte) byte self.old.line (nest_of self.old.stack)) }
+        ensures { Gives (apart (kind_of byte) byte self.old.line (nest_of self.old.stack)) (leaving (state_of self.new) result) }
     {
         match kind_at(byte) {
             Kind::Blank => {
@@ -88,7 +86,7 @@ impl Reader {
 
     /// The refusal of a byte on this line.
     fn refused_here(&self, byte: u8) -> Stop
-        ensures { IsRefusal result (refusal self.now.stack.file 101 self.now.line (hex_byte byte)) }
+        ensures { Stops (λ refusal. refusal ≡ refusal_at self.now.stack.file self.now.line (101, hex_byte byte)) result }
     {
         refused_byte(self.stack.alloc, self.stack.file, self.line, byte)
     }
@@ -96,7 +94,7 @@ impl Reader {
     /// Takes a byte outside strings and comments.
     fn outside(&mut self, byte: u8) -> Result<(), Stop>
         requires { self.old.mode ≡ Mode.Outside }
-        ensures { Gives result (state_of self.new) (outside_step self.old.held byte self.old.line (nest_of self.old.stack)) }
+        ensures { Gives (outside_step self.old.held byte self.old.line (nest_of self.old.stack)) (leaving (state_of self.new) result) }
     {
         if kind_at(byte) == Kind::Letter {
             self.held.push(byte)?;
@@ -109,7 +107,7 @@ impl Reader {
     /// Takes a byte of a string that began on the line `start`.
     fn string(&mut self, start: u32, byte: u8) -> Result<(), Stop>
         requires { self.old.mode ≡ Mode.Quoted start }
-        ensures { Gives result (state_of self.new) (string_step start self.old.held byte self.old.line (nest_of self.old.stack)) }
+        ensures { Gives (string_step start self.old.held byte self.old.line (nest_of self.old.stack)) (leaving (state_of self.new) result) }
     {
         match byte {
             b'"' => {
@@ -134,7 +132,7 @@ impl Reader {
 
     /// Takes a byte that stands behind `\` in a string that began on the line `start`.
     fn escape(&mut self, start: u32, byte: u8) -> Result<(), Stop>
-        ensures { Gives result (state_of self.new) (escape_step start self.old.held byte self.old.line (nest_of self.old.stack)) }
+        ensures { Gives (escape_step start self.old.held byte self.old.line (nest_of self.old.stack)) (leaving (state_of self.new) result) }
     {
         match byte {
             b'"' | b'\\' => self.held.push(byte)?,
@@ -160,7 +158,7 @@ impl Reader {
     }
 
     fn take(&mut self, byte: u8) -> Result<(), Stop>
-        ensures { Gives result (state_of self.new) (step (state_of self.old) byte) }
+        ensures { Gives (step (state_of self.old) byte) (leaving (state_of self.new) result) }
     {
         match self.mode {
             Mode::Outside => self.outside(byte),
@@ -173,8 +171,16 @@ impl Reader {
         }
     }
 
+    /// Takes the end of the last line, with which the text ends.
+    fn end(mut self) -> Result<List<Top>, Stop>
+        ensures { Gives (ends (state_of self) (10 ∷ [])) result }
+    {
+        self.take(b'\n')?;
+        self.finish()
+    }
+
     fn finish(mut self) -> Result<List<Top>, Stop>
-        ensures { Answers result (finish (state_of self)) }
+        ensures { Gives (finish (state_of self)) result }
     {
         match self.mode {
             Mode::Outside => {
@@ -182,18 +188,14 @@ impl Reader {
                 self.whole()
             }
             Mode::Comment => self.whole(),
-            Mode::Quoted(start) | Mode::Escaping(start) => Err(refused(
-                self.stack.alloc,
-                self.stack.file,
-                102,
-                start,
-                b"string".as_slice(),
-            )),
+            Mode::Quoted(start) | Mode::Escaping(start) => Err(
+                self.stack.refused(start, 102, b"string"),
+            ),
         }
     }
 
     fn whole(self) -> Result<List<Top>, Stop>
-        ensures { Answers result (whole (nest_of self.stack)) }
+        ensures { Gives (whole (nest_of self.stack)) result }
     {
         let Reader { stack, .. } = self;
         stack.whole()
@@ -202,7 +204,7 @@ impl Reader {
 
 /// The forms that the bytes spell and a line's end behind them, or the first fault.
 pub fn read_all(alloc: Global, bytes: &[u8], file: u16) -> Result<List<Top>, Stop>
-    ensures { Answers result (read_all file (ended bytes.now)) }
+    ensures { Gives (read_all file (ended bytes.now)) result }
 {
     let mut reader = Reader {
         mode: Mode::Outside,
@@ -213,6 +215,5 @@ pub fn read_all(alloc: Global, bytes: &[u8], file: u16) -> Result<List<Top>, Sto
     for byte in bytes {
         reader.take(*byte)?;
     }
-    reader.take(b'\n')?;
-    reader.finish()
+    reader.end()
 }

@@ -1,38 +1,11 @@
-ghost use Rattle.std.specs.Prelude.{◌≡◌, ◌<◌, IfOk};
+ghost use Rattle.std.specs.Prelude.{◌≡◌, ◌<◌};
 ghost use Rattle.std.specs.Char.{digit_char};
-ghost use Rattle.cg_base.specs.Faults.{refusal, hex_byte};
-ghost use Rattle.cg_sexp.specs.Refused.{IsRefusal};
+ghost use Rattle.cg_base.specs.Answering.{Stops};
+ghost use Rattle.cg_base.specs.Faults.{hex_byte};
+ghost use Rattle.cg_base.specs.Refusing.{refusal_at};
 
-use cg_base::{NoMemory, Refusal, Stop, Text};
+use cg_base::{Fault, Stop, stop_at};
 use std::alloc::Global;
-
-fn refusal_of(
-    alloc: Global,
-    file: u16,
-    number: u16,
-    line: u32,
-    text: &[u8],
-) -> Result<Refusal, NoMemory>
-    ensures { IfOk result (λ r. r ≡ refusal file number line text.now) }
-{
-    Ok(Refusal {
-        number,
-        file,
-        line,
-        text: Text::of(alloc, text)?,
-        other: Text::new(alloc),
-    })
-}
-
-/// The refusal of a text at a place on this line.
-pub fn refused(alloc: Global, file: u16, number: u16, line: u32, text: &[u8]) -> Stop
-    ensures { IsRefusal result (refusal file number line text.now) }
-{
-    match refusal_of(alloc, file, number, line, text) {
-        Ok(refusal) => Stop::Refused(refusal),
-        Err(NoMemory) => Stop::NoMemory,
-    }
-}
 
 fn digit(value: u8) -> u8
     requires { value < 16 }
@@ -45,10 +18,14 @@ fn digit(value: u8) -> u8
     }
 }
 
-/// The refusal of a byte at a place on this line.
+/// The refusal of a byte that has no place on this line.
 pub fn refused_byte(alloc: Global, file: u16, line: u32, byte: u8) -> Stop
-    ensures { IsRefusal result (refusal file 101 line (hex_byte byte)) }
+    ensures { Stops (λ refusal. refusal ≡ refusal_at file line (101, hex_byte byte)) result }
 {
     let digits = [digit(byte / 16), digit(byte % 16)];
-    refused(alloc, file, 101, line, digits.as_slice())
+    let fault = Fault {
+        number: 101,
+        text: digits.as_slice(),
+    };
+    stop_at(alloc, file, line, fault)
 }

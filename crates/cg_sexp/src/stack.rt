@@ -1,10 +1,10 @@
 ghost use Rattle.std.specs.Prelude.{◌≡◌, ◌++◌, ◌∷◌, [], OnOk};
-ghost use Rattle.cg_base.specs.Faults.{refusal};
+ghost use Rattle.cg_base.specs.Answering.{Stops, Gives, leaving};
+ghost use Rattle.cg_base.specs.Refusing.{refusal_at};
 ghost use Rattle.cg_sexp.specs.Machine.{put, opened, closed, whole};
-ghost use Rattle.cg_sexp.specs.Held.{nest_of, Gives, Answers};
+ghost use Rattle.cg_sexp.specs.Held.{nest_of};
 
-use crate::refused::refused;
-use cg_base::{Form, List, NoMemory, Stop, Top};
+use cg_base::{Fault, Form, List, NoMemory, Stop, Top, stop_at};
 use std::alloc::Global;
 
 /// How many lists may stand in one another.
@@ -42,6 +42,13 @@ impl Stack {
         }
     }
 
+    /// The refusal of a text on this line.
+    pub fn refused(&self, line: u32, number: u16, text: &[u8]) -> Stop
+        ensures { Stops (λ refusal. refusal ≡ refusal_at self.now.file line (number, text.now)) result }
+    {
+        stop_at(self.alloc, self.file, line, Fault { number, text })
+    }
+
     /// Puts a form, which begins on this line, into the innermost list.
     pub fn put(&mut self, form: Form, line: u32) -> Result<(), NoMemory>
         ensures { OnOk result (nest_of self.new ≡ put form line (nest_of self.old)) }
@@ -55,10 +62,10 @@ impl Stack {
 
     /// Opens a list, which begins on this line.
     pub fn open(&mut self, line: u32) -> Result<(), Stop>
-        ensures { Gives result (nest_of self.new) (opened line (nest_of self.old)) }
+        ensures { Gives (opened line (nest_of self.old)) (leaving (nest_of self.new) result) }
     {
         if self.lists.len() >= MOST_OPEN {
-            return Err(refused(self.alloc, self.file, 105, line, b"200".as_slice()));
+            return Err(self.refused(line, 105, b"200"));
         }
         let list = Open {
             forms: List::new(self.alloc),
@@ -72,23 +79,23 @@ impl Stack {
 
     /// Closes the innermost list, at a `)` on this line.
     pub fn close(&mut self, line: u32) -> Result<(), Stop>
-        ensures { Gives result (nest_of self.new) (closed line (nest_of self.old)) }
+        ensures { Gives (closed line (nest_of self.old)) (leaving (nest_of self.new) result) }
     {
         match self.lists.pop() {
             Some(Open { forms, line }) => {
                 self.put(Form::Items(forms.fitted()?), line)?;
                 Ok(())
             }
-            None => Err(refused(self.alloc, self.file, 103, line, b")".as_slice())),
+            None => Err(self.refused(line, 103, b")")),
         }
     }
 
     /// The forms that stand in no other, where no list is open.
     pub fn whole(self) -> Result<List<Top>, Stop>
-        ensures { Answers result (whole (nest_of self)) }
+        ensures { Gives (whole (nest_of self)) result }
     {
         match self.lists.last() {
-            Some(list) => Err(refused(self.alloc, self.file, 102, list.line, b"list".as_slice())),
+            Some(list) => Err(self.refused(list.line, 102, b"list")),
             None => {
                 let Stack { tops, .. } = self;
                 Ok(tops)

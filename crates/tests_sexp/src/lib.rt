@@ -1,0 +1,5 @@
+//! Tests of reading and printing against texts from outside.
+#![tactic(auto)]
+
+#[cfg(test)]
+mod tests;
