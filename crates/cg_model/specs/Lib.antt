@@ -1,4 +1,3 @@
 pub mod Pure
 pub mod Fields
 pub mod Matching
-pub mod Examples

@@ -16,6 +16,3 @@ pub use machine::{Alignment, Machine};
 pub use operand::{Operand, Source};
 pub use outcome::{Change, Due, Outcome, Place, Trap, Write};
 pub use rtl::{Op, Rtl};
-
-#[cfg(test)]
-mod examples;

@@ -3,7 +3,7 @@ ghost use Rattle.cg_base.specs.declared.Mode.TheVariants.{Si, Usi};
 ghost use Rattle.cg_model.specs.Pure.{judged};
 ghost use Rattle.cg_model.specs.Fields.{bits_at, field_value, multi_value};
 ghost use Rattle.cg_model.specs.Matching.{matches};
-ghost use Rattle.cg_model.specs.Examples.{tiny, tiny_little, add, add_below_15, twin, displacement};
+ghost use Rattle.tests_model.specs.Examples.{tiny, tiny_little, add, add_below_15, twin, displacement};
 
 /// Fields lie where they should, in either order of bytes.
 fn fields_of_a_word()

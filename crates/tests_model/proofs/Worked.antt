@@ -7,7 +7,7 @@ use Rattle.cg_model.specs.declared.rtl.Op.{Op}
 use Rattle.cg_model.specs.declared.rtl.Rtl.{Rtl}
 use Rattle.cg_model.specs.Fields.{field_value, multi_value, around_fields}
 use Rattle.cg_model.specs.Matching.{matches}
-use Rattle.cg_model.specs.Examples.{rtl, number, field_named, on_two, apart, tiny, add_below_15, twin}
+use Rattle.tests_model.specs.Examples.{rtl, number, field_named, on_two, apart, tiny, add_below_15, twin}
 use Rattle.cg_model.specs.declared.rtl.Op.TheVariants as op
 use Rattle.std.proofs.Common.{ap}
 use Rattle.cg_base.specs.declared.Mode.{Mode}
