@@ -1,4 +1,5 @@
 -- The numbers of an `.iota`: one more of them, and that they lie between the first and the last.
+use Rattle.std.specs.Prelude.{sum}
 use Rattle.std.proofs.Common.{◌≡◌, ℕ, zero, suc, mul-le-mul, ◌+◌, ◌-◌, ◌*◌, ◌^◌, ◌<◌, ◌≤◌, true, ℤ, pos, negsuc, ◌+ℤ◌, ◌*ℤ◌, ◌≤ℤ◌, [], ◌∷◌, ◌++◌, refl, sym, ap, ◌∙◌, subst, arith}
 use Rattle.std.proofs.lemmas.Int.{ints}
 use Rattle.std.proofs.lemmas.Bool.Decides.{nat_tests}
@@ -6,7 +7,7 @@ use Rattle.std.proofs.Common.{map}
 use Rattle.std.proofs.lemmas.Grind.{common_steps}
 use lib.IntN.{suc_ℤ-*ℤ, zero-*ℤ}
 use Rattle.cg_base.specs.declared.form.Form.TheVariants.{Number, Items}
-use Rattle.cg_pmacro.specs.Sizes.{nodes, sum_of}
+use Rattle.cg_pmacro.specs.Sizes.{nodes}
 use Rattle.cg_pmacro.specs.BuiltIns.{numbers, fits_64, iota_fits}
 use Rattle.cg_pmacro.proofs.Values.{nodes_items, nodes_number}
 
@@ -42,9 +43,9 @@ between k n s (negsuc e) le first last =
     let f = fits_bounds s first in let l = fits_bounds (s +ℤ (pos n *ℤ negsuc e)) last in
     bounds_fit (s +ℤ (pos k *ℤ negsuc e)) (omega (arith, ints)) (omega (arith, ints))
 
-numbers_sum : (n : ℕ) (s d : ℤ) → sum_of (map nodes (numbers n s d)) ≡ n
+numbers_sum : (n : ℕ) (s d : ℤ) → sum (map nodes (numbers n s d)) ≡ n
 numbers_sum zero s d = refl
-numbers_sum (suc n) s d = let e = nodes_number s in let rest = numbers_sum n (s +ℤ d) d in omega (arith, e, rest)
+numbers_sum (suc n) s d = let e = nodes_number s in let rest = numbers_sum n (s +ℤ d) d in grind (arith, common_steps)
 
 pub numbers_nodes : (n : ℕ) (s d : ℤ) → nodes (Items (numbers n s d)) ≡ 1 + n
 numbers_nodes n s d = nodes_items (numbers n s d) ∙ ap (λ k. 1 + k) (numbers_sum n s d)

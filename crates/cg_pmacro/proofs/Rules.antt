@@ -4,7 +4,8 @@ use Rattle.std.specs.List.{range_with_len, cons_option}
 use Rattle.std.proofs.lemmas.Grind.{common_steps}
 use Rattle.cg_base.specs.declared.form.Form.{Form}
 use Rattle.cg_base.specs.declared.form.Form.TheVariants as form
-use Rattle.cg_pmacro.specs.declared.fault.Fault.{Fault}
+use Rattle.cg_base.specs.Texts.{is_among, same_text}
+use Rattle.cg_base.specs.Refusing.{Fault}
 use Rattle.cg_pmacro.specs.declared.fault.Halt.{Halt}
 use Rattle.cg_pmacro.specs.declared.fault.Halt.TheVariants.{Faulty, NoMemory}
 use Rattle.cg_pmacro.specs.declared.body.Body.{Body, out-Body}
@@ -14,13 +15,13 @@ use Rattle.cg_pmacro.specs.declared.body.Binding.{Binding}
 use Rattle.cg_pmacro.specs.declared.body.Macro.{Macro}
 use Rattle.cg_pmacro.specs.declared.built_in.BuiltIn.TheVariants as own
 use Rattle.cg_pmacro.specs.Outcome.{Answer, Paid, ◌>>=◌, onward, choose, each, fails, lift}
-use Rattle.cg_pmacro.specs.Reports.{Answers, Gives, Halts, IsHalt}
+use Rattle.cg_pmacro.specs.Reports.{Comes, Leaves, Halts, IsHalt}
 use Rattle.cg_pmacro.specs.Expansion as meant
 use Rattle.cg_pmacro.specs.Steps as steps
 use Rattle.std.proofs.lemmas.Bool.Decides.{nat_tests}
 use Rattle.cg_pmacro.specs.Steps.{over, over_checked, at_depth, affordable, call_built_in, hiding}
 use Rattle.cg_pmacro.specs.declared.built_in.BuiltIn.{BuiltIn}
-use Rattle.cg_pmacro.specs.Shapes.{head_name, macro_named, same_text, is_among}
+use Rattle.cg_pmacro.specs.Shapes.{head_name, macro_named}
 use Rattle.cg_pmacro.specs.BuiltIns.{name_of, misfit, iota_of}
 use Rattle.cg_pmacro.specs.Replacing.{Table, without, replaced_to, replaced_in, looked_up, elements_replaced}
 use Rattle.cg_pmacro.proofs.Fronts.{in_front, none_in_front, one_in_front, more_in_front}
@@ -92,15 +93,15 @@ symbol_anywhere macros k inner spliced s left = by_body k (without_arguments (ma
 
 pub halts_of : (A : Type 0) (x : Fault) (h : Halt) → IsHalt x h → Halts {A = A} (Err x) h
 halts_of A x NoMemory e = tt
-halts_of A x (Faulty y) e = ap Err e
+halts_of A x (Faulty n y) e = ap Err e
 
-pub gives_lifted : {A : Type 0} (out : Answer A) (r : Result A Halt) (left : ℕ) → Answers out r → Gives (lift out left) r left
-gives_lifted (Ok a) (Ok b) left e = cc
-gives_lifted (Err x) (Ok b) left e = absurd (cc)
-gives_lifted (Ok a) (Err NoMemory) left e = tt
-gives_lifted (Err x) (Err NoMemory) left e = tt
-gives_lifted (Ok a) (Err (Faulty y)) left e = absurd (cc)
-gives_lifted (Err x) (Err (Faulty y)) left e = cc
+pub leaves_lifted : {A : Type 0} (out : Answer A) (r : Result A Halt) (left : ℕ) → Comes out r → Leaves (lift out left) r left
+leaves_lifted (Ok a) (Ok b) left e = cc
+leaves_lifted (Err x) (Ok b) left e = absurd (cc)
+leaves_lifted (Ok a) (Err NoMemory) left e = tt
+leaves_lifted (Err x) (Err NoMemory) left e = tt
+leaves_lifted (Ok a) (Err (Faulty n y)) left e = absurd (cc)
+leaves_lifted (Err x) (Err (Faulty n y)) left e = cc
 
 pub results_none : (within : Expander) (b : BuiltIn) (m : Body) (ls : List Form) (k n left : ℕ) → n ≡ 0 → results within b m ls (range_with_len k n) left ≡ Ok ([], left)
 results_none within b m ls k zero left h = refl
@@ -164,17 +165,17 @@ own_called_by macros within own.ForEach spliced args left = λ i. charged (name_
 own_called_by macros within own.Apply spliced args left = λ i. charged (name_of own.Apply) (meant.m_and_lists within own.Apply (λ m ls n. over_apply macros within m ls n i) args) left
 own_called_by macros within b spliced args left = refl
 
-pub ruleset expansion_rules = (common_steps, none_in_front, one_in_front, more_in_front, results_none, results_more, expanded_out, at_leaf, at_zero, at_more, halts_of, gives_lifted, own_called_by)
+pub ruleset expansion_rules = (common_steps, none_in_front, one_in_front, more_in_front, results_none, results_more, expanded_out, at_leaf, at_zero, at_more, halts_of, leaves_lifted, own_called_by)
 
 -- Names that are hidden one after another are hidden together.
-hidden_first : (b : Binding) (table : Table) (name : List ℕ) (names : List (List ℕ)) (here there : Bool) → same_text name b.name ≡ here → is_among b.name names ≡ there → without (without table (name ∷ [])) names ≡ without table (name ∷ names) → without (without (b ∷ table) (name ∷ [])) names ≡ without (b ∷ table) (name ∷ names)
+hidden_first : (b : Binding) (table : Table) (name : List ℕ) (names : List (List ℕ)) (here there : Bool) → same_text name b.name ≡ here → is_among names b.name ≡ there → without (without table (name ∷ [])) names ≡ without table (name ∷ names) → without (without (b ∷ table) (name ∷ [])) names ≡ without (b ∷ table) (name ∷ names)
 hidden_first b table name names true there h e rest = rw h rest
 hidden_first b table name names false true h e rest = rw h (rw e rest)
 hidden_first b table name names false false h e rest = rw h (rw e (ap (λ t. b ∷ t) rest))
 
 hidden_twice : (table : Table) (name : List ℕ) (names : List (List ℕ)) → without (without table (name ∷ [])) names ≡ without table (name ∷ names)
 hidden_twice [] name names = refl
-hidden_twice (b ∷ table) name names = hidden_first b table name names (same_text name b.name) (is_among b.name names) refl refl (hidden_twice table name names)
+hidden_twice (b ∷ table) name names = hidden_first b table name names (same_text name b.name) (is_among names b.name) refl refl (hidden_twice table name names)
 
 pub hidden_next : (table : Table) (name : Option (List ℕ)) (names : List (List ℕ)) → without (hiding table name) names ≡ without table (cons_option name names)
 hidden_next table None names = refl

@@ -11,9 +11,10 @@ use Rattle.std.specs.declared.alloc.Global.{Global}
 use Rattle.cg_base.specs.declared.form.Form.{Form}
 use Rattle.cg_base.specs.contracts.form.Form.{the_parts, as_values, the_beta}
 use Rattle.cg_base.specs.contracts.form.FormPartialEq.TheImpl.Laws as equality
+use Rattle.cg_base.specs.Texts.{same_text}
 use Rattle.cg_pmacro.specs.declared.value.Node.{Node}
 use Rattle.cg_pmacro.specs.declared.value.Node.TheVariants.{Number, Symbol, Str, Flag, Items}
-use Rattle.cg_pmacro.specs.Shapes.{same_text, same_form}
+use Rattle.cg_pmacro.specs.Shapes.{same_form}
 use Rattle.cg_pmacro.specs.Values.{form_of}
 
 -- the kind of a form, with its content
@@ -31,7 +32,7 @@ parts_made (Str s) = the_beta (inr (inr (inl (s.value, tt))))
 parts_made (Flag b) = the_beta (inr (inr (inr (inl (b, tt)))))
 parts_made (Items d fs) = the_beta (inr (inr (inr (inr (inl (fs.value, tt))))))
 
-abbrev same_parts : Choice the_parts → Choice the_parts → Bool
+abbrev pub same_parts : Choice the_parts → Choice the_parts → Bool
 same_parts = by false false the_parts (
   λ a b. (numbers.ghosts).eq a.0 b.0,
   (λ a b. same_text a.0 b.0, (λ a b. same_text a.0 b.0, (λ a b. (flags.ghosts).eq a.0 b.0, (λ a b. pointwise same_form a.0 b.0, tt)))),

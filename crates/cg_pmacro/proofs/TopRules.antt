@@ -1,13 +1,21 @@
 -- The equations of the meanings of top forms, which recurse on how deep lists may stand.
-use Rattle.std.proofs.Common.{◌≡◌, ◌≢◌, ℕ, zero, suc, ◌-◌, List, [], ◌∷◌, drop, Some, Ok, true, codes, refl, arith}
+use Rattle.std.proofs.Common.{◌≡◌, ◌≢◌, ℕ, zero, suc, ◌-◌, List, [], ◌∷◌, drop, Some, Ok, Err, true, codes, refl, sym, ap, ◌∙◌, arith}
 use Rattle.std.proofs.lemmas.Grind.{common_steps}
 use Rattle.cg_base.specs.declared.form.Form.{Form}
+use Rattle.cg_base.specs.Texts.{is_named}
 use Rattle.cg_pmacro.specs.declared.body.Body.{Body}
-use Rattle.cg_pmacro.specs.Outcome.{each_joined}
-use Rattle.cg_pmacro.specs.Shapes.{elements, head_name, is_named}
+use Rattle.cg_base.specs.declared.form.Top.{Top}
+use Rattle.cg_base.specs.declared.refusal.Stop.{Stop}
+use Rattle.cg_base.specs.declared.refusal.Stop.TheVariants as stops
+use Rattle.cg_base.specs.Answering.{Stops}
+use Rattle.cg_pmacro.specs.declared.fault.Halt.{Halt}
+use Rattle.cg_pmacro.specs.declared.fault.Halt.TheVariants.{Faulty, NoMemory}
+use Rattle.cg_pmacro.specs.Reports.{Halts}
+use Rattle.cg_pmacro.specs.Outcome.{Answer, each_joined}
+use Rattle.cg_pmacro.specs.Shapes.{elements, head_name}
 use Rattle.cg_pmacro.specs.Splitting.{split_by, split_each, split_to}
-use Rattle.cg_pmacro.specs.Steps.{further_top, further_split}
-use Rattle.cg_pmacro.specs.Tops.{State, no_forms, top_by, top_to}
+use Rattle.cg_pmacro.specs.Steps.{further_top, further_split, Refuses}
+use Rattle.cg_pmacro.specs.Tops.{State, in_place, no_forms, top_by, top_to}
 use Rattle.cg_pmacro.proofs.Fronts.{none_in_front, more_in_front, answer_none_in_front, answer_more_in_front}
 use Rattle.cg_pmacro.proofs.Rules.{halts_of}
 
@@ -40,5 +48,11 @@ no_parts (suc k) fs h = absurd (omega arith)
 pub further_split_some : (k : ℕ) → k ≢ 0 → further_split k ≡ split_to (k - 1)
 further_split_some zero h = absurd (h refl)
 further_split_some (suc k) h = let e : suc k - 1 ≡ k = omega arith in rw e refl
+
+-- The refusal of a halt in a top form is that of its outcome.
+pub refused_at_top : (t : Top) (out : Answer (List Form × State)) (h : Halt) (stop : Stop) → Halts out h → Stops (Refuses t h) stop → Stops (λ refusal. in_place t out ≡ Err refusal) stop
+refused_at_top t out NoMemory (stops.Refused r) e x = absurd x
+refused_at_top t out (Faulty n y) (stops.Refused r) e x = ap (in_place t) e ∙ ap Err (sym x)
+refused_at_top t out h stops.NoMemory e x = tt
 
 pub ruleset top_rules = (common_steps, none_in_front, more_in_front, answer_none_in_front, answer_more_in_front, halts_of, top_out, begin_nothing, further_top_some, split_out, no_parts, further_split_some)

@@ -1,4 +1,5 @@
 -- The equations of what is seen of a form.
+use Rattle.std.specs.Prelude.{sum}
 use Rattle.std.proofs.Common.{◌≡◌, ◌+◌, ℕ, ℤ, Bool, map, List, ap, sym, ◌∙◌}
 use Rattle.std.proofs.lemmas.Grind.{common_steps}
 use Rattle.cg_base.specs.declared.form.Form.{Form}
@@ -6,11 +7,11 @@ use Rattle.cg_base.specs.declared.form.Form.TheOpen as layer
 use Rattle.cg_base.specs.declared.form.Form.TheViews.{rolls-Number, rolls-Symbol, rolls-Str, rolls-Flag, rolls-Items, outs-Number, outs-Symbol, outs-Str, outs-Flag, outs-Items}
 use Rattle.cg_base.specs.declared.form.Form.TheFolds.{fold-roll-Form}
 use Rattle.cg_base.specs.declared.form.Form.TheVariants.{Number, Symbol, Str, Flag, Items}
-use Rattle.cg_pmacro.specs.Sizes.{nodes, nodes_step, sum_of, lists}
+use Rattle.cg_pmacro.specs.Sizes.{nodes, nodes_step, lists}
 use Rattle.cg_pmacro.specs.Depths.{lists_step}
 use Rattle.cg_pmacro.specs.Falls.{lists_items}
 
-pub nodes_items : (fs : List Form) → nodes (Items fs) ≡ 1 + sum_of (map nodes fs)
+pub nodes_items : (fs : List Form) → nodes (Items fs) ≡ 1 + sum (map nodes fs)
 nodes_items fs = ap nodes (sym (rolls-Items fs)) ∙ fold-roll-Form ℕ nodes_step (layer.Items fs)
 
 pub nodes_number : (n : ℤ) → nodes (Number n) ≡ 1

@@ -1,24 +1,27 @@
 -- The language's own macros: their names, and what those give that expand all their arguments before
 -- (docs/LANGUAGE.md, "Macros").
-use Rattle.std.specs.Prelude.{ℕ, zero, suc, ◌+◌, ◌-◌, ◌/◌, ◌%◌, ◌^◌, ◌==◌, nat_lt, nat_le, Bool, true, false, not, ◌&&◌, ◌||◌, ℤ, pos, negsuc, ◌+ℤ◌, ◌-ℤ◌, ◌*ℤ◌, int_lt, List, [], ◌∷◌, ◌++◌, map, length, take, drop, slice_get, Option, Some, None, ok_or, Ok, Err, codes, if◌then◌else◌}
-use Rattle.std.specs.Fmt.{signed_decimal}
+use Rattle.std.specs.Prelude.{ℕ, zero, suc, ◌-◌, ◌^◌, ◌==◌, nat_lt, nat_le, Bool, true, false, not, ◌&&◌, ◌||◌, ℤ, pos, negsuc, ◌+ℤ◌, ◌-ℤ◌, ◌*ℤ◌, int_lt, List, [], ◌∷◌, ◌++◌, map, length, take, drop, replicate, slice_get, Option, Some, None, ok_or, Ok, Err, codes, if◌then◌else◌}
+use Rattle.std.specs.Char.{to_ascii_uppercase, to_ascii_lowercase}
+use Rattle.std.specs.Fmt.{digits, signed_decimal}
 use Rattle.std.specs.List.{find}
 use Rattle.cg_base.specs.declared.form.Form.{Form, out-Form}
 use Rattle.cg_base.specs.declared.form.Form.TheOpen as layer
 use Rattle.cg_base.specs.declared.form.Form.TheOpen.{Form-F}
 use Rattle.cg_base.specs.declared.form.Form.TheVariants.{Number, Symbol, Str, Flag, Items}
+use Rattle.cg_base.specs.Texts.{same_text}
 use Rattle.cg_pmacro.specs.declared.built_in.BuiltIn.{BuiltIn}
 use Rattle.cg_pmacro.specs.declared.built_in.BuiltIn.TheVariants as own
-use Rattle.cg_pmacro.specs.declared.fault.Fault.{Fault}
-use Rattle.cg_pmacro.specs.Outcome.{Answer, fault, onward}
+use Rattle.cg_base.specs.Refusing.{Fault}
+use Rattle.cg_pmacro.specs.Outcome.{Answer, onward}
 use Rattle.cg_base.specs.Parts.{word_of, number_of, natural_of, elements_of}
-use Rattle.cg_pmacro.specs.Shapes.{same_text, same_form}
+use Rattle.cg_pmacro.specs.Shapes.{same_form}
 
 -- one answer after the other; a fault ends them
 infixl 10 ◌>>=◌
 abbrev ◌>>=◌ : {A B : Type 0} → Answer A → (A → Answer B) → Answer B
 first >>= next = onward first next
 
+-- the name that calls it
 abbrev pub name_of : BuiltIn → List ℕ
 name_of own.Sym = codes ".sym"
 name_of own.Str = codes ".str"
@@ -53,6 +56,7 @@ name_of own.Ge = codes ".ge"
 name_of own.Not = codes ".not"
 name_of own.Error = codes ".error"
 
+-- all of them
 abbrev pub all_built_ins : List BuiltIn
 all_built_ins =
     own.Sym ∷ own.Str ∷ own.Hex ∷ own.Upcase ∷ own.Downcase ∷ own.Substring ∷ own.Splice ∷ own.Unsplice ∷ own.Iota ∷ own.Map ∷ own.ForEach ∷ own.Apply ∷ own.Pmacro ∷ own.Let ∷ own.LetStar ∷ own.If ∷ own.Cond ∷ own.Case ∷ own.List ∷ own.Ref ∷ own.Length ∷ own.Add ∷ own.Sub ∷ own.Mul ∷ own.Eq ∷ own.Ne ∷ own.Lt ∷ own.Gt ∷ own.Le ∷ own.Ge ∷ own.Not ∷ own.Error ∷ []
@@ -77,11 +81,11 @@ is_lazy _ = false
 
 -- a wrong count of arguments
 abbrev pub miscounted : BuiltIn → Fault
-miscounted b = fault 201 (name_of b)
+miscounted b = (201, name_of b)
 
 -- an argument that isn't of its kind
 abbrev pub misfit : BuiltIn → Fault
-misfit b = fault 202 (name_of b)
+misfit b = (202, name_of b)
 
 abbrev pub kept_layer : Form-F Form → List ℕ → Form
 kept_layer (layer.Symbol s) t = Symbol t
@@ -135,40 +139,22 @@ joined b (f ∷ fs) = do
 
 -- `(.error a ..)` is the fault 205 with the joined text.
 abbrev pub error_of : List Form → Answer Form
-error_of args = joined own.Error args >>= λ t. Err (fault 205 t)
+error_of args = joined own.Error args >>= λ t. Err (205, t)
 
--- a digit of base 16 as a byte, in lower case
-abbrev pub hex_digit : ℕ → ℕ
-hex_digit d = if nat_lt d 10 then 48 + d else 87 + d
-
--- the last digits of n, so many
+-- the last w of the digits of n in base 16, with zeros in front of them
 abbrev pub last_digits : ℕ → ℕ → List ℕ
-last_digits zero n = []
-last_digits (suc k) n = last_digits k (n / 16) ++ hex_digit (n % 16) ∷ []
-
--- how many digits n has, at most k + 1
-abbrev pub digits_needed : ℕ → ℕ → ℕ
-digits_needed zero n = 1
-digits_needed (suc k) n = if nat_lt n 16 then 1 else 1 + digits_needed k (n / 16)
+last_digits w n = drop (length (digits 16 false n)) (replicate w 48 ++ digits 16 false n)
 
 -- `(.hex n [w])`: the lower-case digits of n, which isn't negative; with w from 1 to 16 the last w, zeros in front.
 abbrev pub hex_of : List Form → Answer Form
 hex_of (x ∷ []) = do
   n ← natural_for own.Hex x
-  Ok (Str (last_digits (digits_needed 16 n) n))
+  Ok (Str (digits 16 false n))
 hex_of (x ∷ y ∷ []) = do
   n ← natural_for own.Hex x
   w ← natural_for own.Hex y
   if nat_le 1 w && nat_le w 16 then Ok (Str (last_digits w n)) else Err (misfit own.Hex)
 hex_of _ = Err (miscounted own.Hex)
-
--- an ASCII letter as a capital; another byte stays
-abbrev pub upper : ℕ → ℕ
-upper c = if nat_le 97 c && nat_le c 122 then c - 32 else c
-
--- an ASCII letter as a small one; another byte stays
-abbrev pub lower : ℕ → ℕ
-lower c = if nat_le 65 c && nat_le c 90 then c + 32 else c
 
 -- `(.upcase a)` and `(.downcase a)`: a symbol or string with its letters changed
 abbrev pub letters_of : BuiltIn → (ℕ → ℕ) → List Form → Answer Form
@@ -288,8 +274,8 @@ abbrev pub ordinary : BuiltIn → Bool → List Form → Answer Form
 ordinary own.Sym spliced args = joined own.Sym args >>= λ t. Ok (Symbol t)
 ordinary own.Str spliced args = joined own.Str args >>= λ t. Ok (Str t)
 ordinary own.Hex spliced args = hex_of args
-ordinary own.Upcase spliced args = letters_of own.Upcase upper args
-ordinary own.Downcase spliced args = letters_of own.Downcase lower args
+ordinary own.Upcase spliced args = letters_of own.Upcase to_ascii_uppercase args
+ordinary own.Downcase spliced args = letters_of own.Downcase to_ascii_lowercase args
 ordinary own.Substring spliced args = substring_of args
 ordinary own.Unsplice spliced args = unsplice_of spliced args
 ordinary own.Ref spliced args = ref_of args

@@ -4,7 +4,7 @@ use Rattle.cg_pmacro.specs.declared.body.Body.{Body, out-Body}
 use Rattle.cg_pmacro.specs.declared.body.Body.TheOpen as body
 use Rattle.cg_pmacro.specs.declared.body.Body.TheOpen.{Body-F}
 use Rattle.cg_pmacro.specs.declared.body.Macro.{Macro}
-use Rattle.cg_pmacro.specs.Outcome.{Answer, fault, choose}
+use Rattle.cg_pmacro.specs.Outcome.{Answer, choose}
 use Rattle.cg_pmacro.specs.Shapes.{own_symbol, first_symbol, elements, is_list, names_of, macro_named, begins_with_dot}
 
 abbrev pub string_layer : Body-F Body → Bool
@@ -38,20 +38,20 @@ misdefined_name _ = codes "define-pmacro"
 abbrev pub macro_of : List ℕ → Body → Body → Answer Macro
 macro_of name named b =
     choose (elements named)
-    (λ bs. choose (names_of (drop 1 bs)) (λ names. Ok (record { name = name; formals = Some names; body = b })) (Err (fault 202 name)))
+    (λ bs. choose (names_of (drop 1 bs)) (λ names. Ok (record { name = name; formals = Some names; body = b })) (Err (202, name)))
     (Ok (record { name = name; formals = None; body = b }))
 
 -- No two macros have one name, and none has one that begins with a dot.
 abbrev pub defined_as : List Macro → Body → Body → Answer Macro
 defined_as macros named b =
     choose (defined_name named)
-    (λ name. if is_some (macro_named macros name) || begins_with_dot name then Err (fault 206 name) else macro_of name named b)
-    (Err (fault 202 (codes "define-pmacro")))
+    (λ name. if is_some (macro_named macros name) || begins_with_dot name then Err (206, name) else macro_of name named b)
+    (Err (202, codes "define-pmacro"))
 
 -- `(define-pmacro NAMED BODY)`
 abbrev pub defined : List Macro → List Body → Answer Macro
 defined macros (d ∷ named ∷ b ∷ []) = defined_as macros named b
-defined macros bs = Err (fault 202 (misdefined_name bs))
+defined macros bs = Err (202, misdefined_name bs)
 
 -- The macro of a definition. Its faults come in the order of its shape, its name and its formals.
 abbrev pub definition : List Macro → List Body → Answer Macro

@@ -4,6 +4,7 @@ use Rattle.std.specs.Prelude.{ℕ, zero, suc, ◌+◌, ◌-◌, ◌==◌, nat_lt
 use Rattle.std.specs.List.{list_all, list_any, range_with_len}
 use Rattle.cg_base.specs.declared.form.Form.{Form}
 use Rattle.cg_base.specs.declared.form.Form.TheVariants as form
+use Rattle.cg_base.specs.Texts.{is_named}
 use Rattle.cg_pmacro.specs.declared.body.Body.{Body, out-Body}
 use Rattle.cg_pmacro.specs.declared.body.Body.TheOpen as body
 use Rattle.cg_pmacro.specs.declared.body.Body.TheOpen.{Body-F}
@@ -12,10 +13,10 @@ use Rattle.cg_pmacro.specs.declared.body.Macro.{Macro}
 use Rattle.cg_pmacro.specs.declared.body.Binding.{Binding}
 use Rattle.cg_pmacro.specs.declared.built_in.BuiltIn.{BuiltIn}
 use Rattle.cg_pmacro.specs.declared.built_in.BuiltIn.TheVariants as own
-use Rattle.cg_pmacro.specs.Outcome.{Answer, Paid, ◌>>=◌, pure, fails, lift, each, each_joined, fault, choose}
+use Rattle.cg_pmacro.specs.Outcome.{Answer, Paid, ◌>>=◌, pure, fails, lift, each, each_joined, choose}
 use Rattle.cg_pmacro.specs.Sizes.{nodes, lists}
 use Rattle.cg_base.specs.Parts.{elements_of}
-use Rattle.cg_pmacro.specs.Shapes.{same_form, written, called, head_name, is_named, own_symbol, elements, is_list, pmacro_form, pmacro_head, pair_of, binding, formal_names, macro_named, begins_with_dot}
+use Rattle.cg_pmacro.specs.Shapes.{same_form, written, called, head_name, own_symbol, elements, is_list, pmacro_form, pmacro_head, pair_of, binding, formal_names, macro_named, begins_with_dot}
 use Rattle.cg_pmacro.specs.BuiltIns.{name_of, built_in, is_lazy, miscounted, misfit, is_false, iota_of, ordinary}
 use Rattle.cg_pmacro.specs.Replacing.{Table, replaced, without}
 
@@ -26,8 +27,8 @@ Expander = List ℕ → Bool → Body → Paid Form
 -- The cost of a call is one unit and the nodes of its result, which has lists at most 200 deep.
 abbrev pub charge : List ℕ → Form → Paid Form
 charge name f left =
-    if nat_lt left (1 + nodes f) then Err (fault 203 (codes "4000000"))
-    else if nat_lt 200 (lists f) then Err (fault 204 name)
+    if nat_lt left (1 + nodes f) then Err (203, codes "4000000")
+    else if nat_lt 200 (lists f) then Err (204, name)
     else Ok (f, left - (1 + nodes f))
 
 -- The cost is charged once the result is known.
@@ -49,7 +50,7 @@ bindings (n ∷ ns) (f ∷ fs) = record { name = n; value = f } ∷ bindings ns 
 -- Each argument is put in the place of its formal in the body, which is then expanded.
 abbrev pub call_written : Expander → List ℕ → List (List ℕ) → Body → List Form → Paid Form
 call_written within name formals b args =
-    if length args == length formals then within name false (replaced (bindings formals args) b) else fails (fault 201 name)
+    if length args == length formals then within name false (replaced (bindings formals args) b) else fails (201, name)
 
 -- A call of a macro expands its arguments from left to right, and then the body with these in it.
 abbrev pub macro_called : Expander → List ℕ → List (List ℕ) → Body → List Body → Paid Form
@@ -109,6 +110,7 @@ first_arm within (arm ∷ arms) =
     (λ p. if is_else p.0 arms then pure (Some p.1) else arm_or within p (first_arm within arms))
     (pure None)
 
+-- it is a list of two
 abbrev pub is_pair : Body → Bool
 is_pair b = is_some (pair_of b)
 
@@ -153,6 +155,7 @@ let_in_order within b earlier (p ∷ ps) = do
   f ← within (name_of b) false (replaced earlier p.1)
   let_in_order within b (without earlier (p.0 ∷ []) ++ record { name = p.0; value = f } ∷ []) ps
 
+-- it is a binding `(n e)`
 abbrev pub is_binding : Body → Bool
 is_binding b = is_some (binding b)
 
@@ -338,17 +341,17 @@ comes_to macros within inner in_splice (pmacro_call form args) = call_pmacro wit
 comes_to macros within inner in_splice (own_call b args) = own_called macros within b in_splice args
 comes_to macros within inner in_splice (other_list None bs) = listed (each (within inner false) bs)
 comes_to macros within inner in_splice (other_list (Some name) bs) =
-    if begins_with_dot name then fails (fault 207 name) else listed (each (within inner false) bs)
+    if begins_with_dot name then fails (207, name) else listed (each (within inner false) bs)
 
 -- Where nothing may stand deeper, only a form that is itself expands. The fault has the name of the macro, and in a list that
 -- isn't a call that of the innermost one around it.
 abbrev pub too_deep : List ℕ → Kind → Paid Form
 too_deep inner (itself f) = pure f
-too_deep inner (macro_symbol name b) = fails (fault 204 name)
-too_deep inner (macro_call name formals b args) = fails (fault 204 name)
-too_deep inner (pmacro_call form args) = fails (fault 204 (codes ".pmacro"))
-too_deep inner (own_call b args) = fails (fault 204 (name_of b))
-too_deep inner (other_list name bs) = fails (fault 204 inner)
+too_deep inner (macro_symbol name b) = fails (204, name)
+too_deep inner (macro_call name formals b args) = fails (204, name)
+too_deep inner (pmacro_call form args) = fails (204, codes ".pmacro")
+too_deep inner (own_call b args) = fails (204, name_of b)
+too_deep inner (other_list name bs) = fails (204, inner)
 
 -- What a form expands to, where lists, and symbols that name a macro without arguments, may still stand so deep one within
 -- another. The fault of the depth comes before all others.

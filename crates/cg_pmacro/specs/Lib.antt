@@ -8,6 +8,7 @@ pub mod Expansion
 pub mod Splitting
 pub mod Definitions
 pub mod Tops
+pub mod ShortForms
 pub mod Laws
 pub mod Reports
 pub mod Steps

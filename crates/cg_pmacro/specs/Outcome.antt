@@ -1,13 +1,10 @@
 -- What an expansion comes to: an answer, or the first fault.
 use Rattle.std.specs.Prelude.{ℕ, List, [], ◌∷◌, ◌++◌, Option, Some, None, Result, Ok, Err}
-use Rattle.cg_pmacro.specs.declared.fault.Fault.{Fault}
+use Rattle.cg_base.specs.Refusing.{Fault}
 
+-- an answer, or the fault that comes in its place: the number of its refusal, and the text of it
 abbrev pub Answer : Type 0 → Type 0
 Answer A = Result A Fault
-
--- the fault of that number with that text
-abbrev pub fault : ℕ → List ℕ → Fault
-fault number text = record { number = number; text = text }
 
 -- what comes of an answer; a fault stays the fault
 abbrev pub onward : {A B X : Type 0} → Result A X → (A → Result B X) → Result B X

@@ -1,6 +1,7 @@
 -- Names replaced in a body by the forms that stand for them (docs/LANGUAGE.md, "Macros").
 use Rattle.std.specs.Prelude.{ℕ, zero, suc, not, List, [], ◌∷◌, map, Option, None, codes, if◌then◌else◌}
 use Rattle.std.specs.List.{find, filter, filter_map}
+use Rattle.cg_base.specs.Texts.{is_among, is_named, same_text}
 use Rattle.cg_pmacro.specs.declared.body.Body.{Body, out-Body}
 use Rattle.cg_pmacro.specs.declared.body.Body.TheOpen as body
 use Rattle.cg_pmacro.specs.declared.body.Body.TheOpen.{Body-F}
@@ -8,7 +9,7 @@ use Rattle.cg_pmacro.specs.declared.body.Body.TheVariants.{Quoted, Symbol, Items
 use Rattle.cg_pmacro.specs.declared.body.Binding.{Binding}
 use Rattle.cg_pmacro.specs.Outcome.{choose}
 use Rattle.cg_pmacro.specs.Sizes.{levels}
-use Rattle.cg_pmacro.specs.Shapes.{same_text, is_named, is_among, head_name, own_symbol, first_symbol, elements}
+use Rattle.cg_pmacro.specs.Shapes.{head_name, own_symbol, first_symbol, elements}
 
 -- each name of a table, and the form that stands for it
 abbrev pub Table : Type 0
@@ -20,7 +21,7 @@ looked_up table name = choose (find (λ b. same_text b.name name) table) (λ b. 
 
 -- the table without some names
 abbrev pub without : Table → List (List ℕ) → Table
-without table names = filter (λ b. not (is_among b.name names)) table
+without table names = filter (λ b. not (is_among names b.name)) table
 
 -- the symbols among the elements of a list
 abbrev pub symbols_among : List Body → List (List ℕ)

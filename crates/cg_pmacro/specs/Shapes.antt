@@ -1,9 +1,9 @@
 -- What can be seen of a form, and of a form with quoted leaves (docs/LANGUAGE.md, "Macros"). A name that ends in `_layer` says
 -- it of one level of a form.
 use Rattle.std.specs.Prelude.{ℕ, Bool, false, ◌==◌, List, [], ◌∷◌, is_some, Option, Some, None, codes, if◌then◌else◌}
-use Rattle.std.specs.List.{list_any, find}
-use Rattle.std.specs.Cmp.Lexicographic.{pointwise}
+use Rattle.std.specs.List.{find}
 use Rattle.cg_base.specs.Parts.{◌>>=◌, symbol_of}
+use Rattle.cg_base.specs.Texts.{same_text, is_named, is_among}
 use Rattle.cg_base.specs.declared.form.Form.{Form, fold-Form}
 use Rattle.cg_base.specs.declared.form.Form.TheOpen as layer
 use Rattle.cg_base.specs.declared.form.Form.TheOpen.{Form-F}
@@ -15,10 +15,7 @@ use Rattle.cg_pmacro.specs.declared.body.Body.TheOpen.{Body-F}
 use Rattle.cg_pmacro.specs.declared.body.Body.TheVariants.{Number, Symbol, Str, Flag, Items}
 use Rattle.cg_pmacro.specs.declared.body.Macro.{Macro}
 
-abbrev pub same_text : List ℕ → List ℕ → Bool
-same_text = pointwise ◌==◌
-
--- the same kind of form with the same content
+-- the same kind of form with the same content: the two are equal
 abbrev pub same_form : Form → Form → Bool
 same_form = (equality.ghosts).eq
 
@@ -58,11 +55,6 @@ called b = called_layer (out-Body b)
 abbrev pub head_name : List Body → Option (List ℕ)
 head_name [] = None
 head_name (b ∷ bs) = called b
-
--- it is a symbol, of that name
-abbrev pub is_named : List ℕ → Option (List ℕ) → Bool
-is_named name None = false
-is_named name (Some s) = same_text s name
 
 abbrev pub own_symbol_layer : Body-F Body → Option (List ℕ)
 own_symbol_layer (body.Symbol s) = Some s
@@ -114,17 +106,13 @@ binding b = do
   name ← own_symbol p.0
   Some (name, p.1)
 
--- that name stands among the names
-abbrev pub is_among : List ℕ → List (List ℕ) → Bool
-is_among name names = list_any (λ n. same_text n name) names
-
 -- the names of formals, which are distinct symbols
 abbrev pub names_of : List Body → Option (List (List ℕ))
 names_of [] = Some []
 names_of (b ∷ bs) = do
   name ← own_symbol b
   names ← names_of bs
-  if is_among name names then None else Some (name ∷ names)
+  if is_among names name then None else Some (name ∷ names)
 
 -- the names in a list of formals
 abbrev pub formal_names : Body → Option (List (List ℕ))

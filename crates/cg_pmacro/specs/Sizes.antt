@@ -1,5 +1,5 @@
 -- How large forms are.
-use Rattle.std.specs.Prelude.{ℕ, ◌+◌, List, [], ◌∷◌}
+use Rattle.std.specs.Prelude.{ℕ, ◌+◌, sum}
 use Rattle.cg_base.specs.declared.form.Form.{Form, fold-Form}
 use Rattle.cg_base.specs.declared.form.Form.TheOpen as layer
 use Rattle.cg_base.specs.declared.form.Form.TheOpen.{Form-F}
@@ -8,12 +8,8 @@ use Rattle.cg_pmacro.specs.declared.body.Body.TheOpen as body
 use Rattle.cg_pmacro.specs.declared.body.Body.TheOpen.{Body-F}
 pub use Rattle.cg_pmacro.specs.Depths.{greatest_of, lists}
 
-abbrev pub sum_of : List ℕ → ℕ
-sum_of [] = 0
-sum_of (n ∷ ns) = n + sum_of ns
-
 abbrev pub nodes_step : Form-F ℕ → ℕ
-nodes_step (layer.Items ns) = 1 + sum_of ns
+nodes_step (layer.Items ns) = 1 + sum ns
 nodes_step _ = 1
 
 -- A leaf has one node. A list has one more than its elements have.

@@ -1,21 +1,21 @@
 -- The forms that the result of an expansion stands for (docs/LANGUAGE.md, "Macros").
 use Rattle.std.specs.Prelude.{ℕ, zero, suc, List, [], ◌∷◌, ◌++◌, drop, Option, None, unwrap_or, Ok, Err, codes, if◌then◌else◌}
 use Rattle.cg_base.specs.declared.form.Form.{Form}
-use Rattle.cg_pmacro.specs.Outcome.{Answer, fault, onward, choose}
+use Rattle.cg_base.specs.Texts.{is_named}
+use Rattle.cg_pmacro.specs.Outcome.{Answer, onward, choose}
 use Rattle.cg_pmacro.specs.Sizes.{lists}
 use Rattle.cg_base.specs.Parts.{symbol_of, elements_of}
-use Rattle.cg_pmacro.specs.Shapes.{is_named}
 
 -- one answer after the other; a fault ends them
 infixl 10 ◌>>=◌
 abbrev ◌>>=◌ : {A B : Type 0} → Answer A → (A → Answer B) → Answer B
 first >>= next = onward first next
 
--- the symbol that heads a list
 abbrev pub first_name : List Form → Option (List ℕ)
 first_name [] = None
 first_name (f ∷ fs) = symbol_of f
 
+-- the symbol that heads a list
 abbrev pub form_head : Form → Option (List ℕ)
 form_head f = choose (elements_of f) first_name None
 
@@ -35,8 +35,8 @@ split_each within (f ∷ fs) = do
 abbrev pub split_by : (Form → Answer (List Form)) → Form → Answer (List Form)
 split_by within f =
     if is_named (codes "begin") (form_head f) then split_each within (behind_head f)
-    else if is_named (codes "include") (form_head f) then Err (fault 307 (codes "include"))
-    else if is_named (codes "define-pmacro") (form_head f) then Err (fault 307 (codes "define-pmacro"))
+    else if is_named (codes "include") (form_head f) then Err (307, codes "include")
+    else if is_named (codes "define-pmacro") (form_head f) then Err (307, codes "define-pmacro")
     else Ok (f ∷ [])
 
 abbrev pub nothing : Form → Answer (List Form)

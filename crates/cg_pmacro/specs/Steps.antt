@@ -5,17 +5,18 @@ use Rattle.cg_base.specs.declared.form.Form.TheVariants as form
 use Rattle.std.specs.List.{range_with_len}
 use Rattle.cg_base.specs.declared.form.Top.{Top}
 use Rattle.cg_base.specs.declared.refusal.Stop.{Stop}
-use Rattle.cg_base.specs.declared.refusal.Stop.TheVariants as stop
+use Rattle.cg_base.specs.Answering.{Stops}
+use Rattle.cg_base.specs.declared.refusal.Refusal.{Refusal}
 use Rattle.cg_pmacro.specs.declared.body.Body.{Body}
 use Rattle.cg_pmacro.specs.declared.body.Macro.{Macro}
 use Rattle.cg_pmacro.specs.declared.built_in.BuiltIn.{BuiltIn}
 use Rattle.cg_pmacro.specs.declared.built_in.BuiltIn.TheVariants as own
 use Rattle.cg_pmacro.specs.declared.built_in.Manner.{Manner}
 use Rattle.cg_pmacro.specs.declared.built_in.Manner.TheVariants as way
-use Rattle.cg_pmacro.specs.declared.fault.Fault.{Fault}
+use Rattle.cg_base.specs.Refusing.{Fault, refusal_at}
 use Rattle.cg_pmacro.specs.declared.fault.Halt.{Halt}
 use Rattle.cg_pmacro.specs.declared.fault.Halt.TheVariants.{Faulty, NoMemory}
-use Rattle.cg_pmacro.specs.Outcome.{Answer, Paid, Run, ◌>>=◌, fault, pure, fails, lift, each}
+use Rattle.cg_pmacro.specs.Outcome.{Answer, Paid, Run, ◌>>=◌, pure, fails, lift, each}
 use Rattle.cg_pmacro.specs.Reports.{Halts}
 use Rattle.cg_pmacro.specs.Sizes.{nodes}
 use Rattle.cg_pmacro.specs.Shapes.{binding}
@@ -23,21 +24,22 @@ use Rattle.cg_pmacro.specs.BuiltIns.{name_of, miscounted, misfit, iota_of, ordin
 use Rattle.cg_pmacro.specs.Replacing.{Table, Replacer, without, side_by_side, in_order}
 use Rattle.cg_pmacro.specs.Expansion.{Expander, Kind, too_deep, comes_to, expanded, chosen, take_if, take_cond, take_case, let_binding, let_in_order, let_bindings, let_body, stray_pmacro, is_callable, are_lists, results, call_of, elements_or_none, m_and_lists, spliced_list}
 use Rattle.cg_pmacro.specs.Splitting.{split_to, nothing}
-use Rattle.cg_pmacro.specs.Tops.{State, state, refusal, top_to, no_forms}
+use Rattle.cg_pmacro.specs.Tops.{State, state, in_place, top_to, no_forms}
 
 -- this is the outcome of a top form, with the macros that are known then and the units that are left
-abbrev pub GivesTop : {A : Type 0} → Answer (A × State) → Result A Halt → List Macro → ℕ → Type 0
-GivesTop out (Ok a) macros left = out ≡ Ok (a, state macros left)
-GivesTop out (Err h) macros left = Halts out h
+abbrev pub LeavesTop : {A : Type 0} → Answer (A × State) → Result A Halt → List Macro → ℕ → Type 0
+LeavesTop out (Ok a) macros left = out ≡ Ok (a, state macros left)
+LeavesTop out (Err h) macros left = Halts out h
 
--- what came to a halt in a top form stops with its refusal
-abbrev pub stop_of : Top → Halt → Stop
-stop_of t NoMemory = stop.NoMemory
-stop_of t (Faulty x) = stop.Refused (refusal x t)
+-- the refusal of what came to a halt in a top form
+abbrev pub Refuses : Top → Halt → Refusal → Type 0
+Refuses t NoMemory refusal = ⊥
+Refuses t (Faulty number text) refusal = refusal ≡ refusal_at t.file t.line (number, text)
 
-abbrev pub stopped : {A : Type 0} → Top → Result A Halt → Result A Stop
-stopped t (Ok a) = Ok a
-stopped t (Err h) = Err (stop_of t h)
+-- this was answered of a top form of that outcome, with the macros that are known then and the units that are left
+abbrev pub AnswersTop : Top → Answer (List Form × State) → Result (List Form) Stop → List Macro → ℕ → Type 0
+AnswersTop t out (Ok fs) macros left = out ≡ Ok (fs, state macros left)
+AnswersTop t out (Err stop) macros left = Stops (λ refusal. in_place t out ≡ Err refusal) stop
 
 -- what a form of a kind comes to, where lists and symbols that expand may still stand so deep
 abbrev pub at_depth : List Macro → ℕ → List ℕ → Bool → Kind → Paid Form
@@ -56,7 +58,7 @@ further_split (suc k) = split_to k
 
 -- an answer whose cost, were it charged, is not more than what is left
 abbrev pub affordable : ℕ → Answer Form → Answer Form
-affordable left (Ok f) = if nat_lt left (1 + nodes f) then Err (fault 203 (codes "4000000")) else Ok f
+affordable left (Ok f) = if nat_lt left (1 + nodes f) then Err (203, codes "4000000") else Ok f
 affordable left (Err x) = Err x
 
 -- how the code calls a built-in

@@ -1,17 +1,16 @@
 -- The forms that the top forms of a description stand for (docs/LANGUAGE.md, "Macros").
-use Rattle.std.specs.Prelude.{◌≡◌, ℕ, zero, suc, false, List, [], ◌∷◌, ◌++◌, map, drop, Result, Ok, Err, codes, if◌then◌else◌}
+use Rattle.std.specs.Prelude.{ℕ, zero, suc, false, List, [], ◌∷◌, ◌++◌, map, drop, Result, Ok, Err, codes, if◌then◌else◌}
 use Rattle.cg_base.specs.declared.form.Form.{Form}
 use Rattle.cg_base.specs.declared.form.Forms.{Forms}
 use Rattle.cg_base.specs.declared.form.Top.{Top}
 use Rattle.cg_base.specs.declared.refusal.Refusal.{Refusal}
-use Rattle.cg_base.specs.declared.refusal.Stop.{Stop}
-use Rattle.cg_base.specs.declared.refusal.Stop.TheVariants.{Refused, NoMemory}
+use Rattle.cg_base.specs.Texts.{is_named}
 use Rattle.cg_pmacro.specs.declared.body.Body.{Body}
 use Rattle.cg_pmacro.specs.declared.body.Macro.{Macro}
-use Rattle.cg_pmacro.specs.declared.fault.Fault.{Fault}
-use Rattle.cg_pmacro.specs.Outcome.{Answer, Run, onward, pure, fails, each_joined, fault, choose}
+use Rattle.cg_base.specs.Refusing.{Fault, refusal_at}
+use Rattle.cg_pmacro.specs.Outcome.{Answer, Run, onward, pure, fails, each_joined, choose}
 use Rattle.cg_pmacro.specs.Sizes.{levels}
-use Rattle.cg_pmacro.specs.Shapes.{plain, head_name, is_named, elements}
+use Rattle.cg_pmacro.specs.Shapes.{plain, head_name, elements}
 use Rattle.cg_pmacro.specs.Expansion.{expanded}
 use Rattle.cg_pmacro.specs.Splitting.{split}
 use Rattle.cg_pmacro.specs.Definitions.{definition}
@@ -42,7 +41,7 @@ abbrev pub top_list : (Body → Topped) → Body → List Body → Topped
 top_list within b bs =
     if is_named (codes "begin") (head_name bs) then each_joined within (drop 1 bs)
     else if is_named (codes "define-pmacro") (head_name bs) then top_defined bs
-    else if is_named (codes "include") (head_name bs) then fails (fault 307 (codes "include"))
+    else if is_named (codes "include") (head_name bs) then fails (307, codes "include")
     else top_expanded b
 
 -- What a top form stands for, where `within` says it of the elements of a `begin`.
@@ -65,14 +64,10 @@ topped b = top_to (levels b) b
 abbrev pub placed : Top → Form → Top
 placed t f = record { form = f; file = t.file; line = t.line }
 
--- the refusal of a fault in a top form
-abbrev pub refusal : Fault → Top → Refusal
-refusal x t = record { number = x.number; file = t.file; line = t.line; text = x.text; other = [] }
-
 -- The forms of a top form have its place, and so has its refusal.
 abbrev pub in_place : Top → Answer (List Form × State) → Result (List Top × State) Refusal
 in_place t (Ok r) = Ok (map (placed t) r.0, r.1)
-in_place t (Err x) = Err (refusal x t)
+in_place t (Err x) = Err (refusal_at t.file t.line x)
 
 abbrev pub top_forms : Top → Run State Refusal (List Top)
 top_forms t s = in_place t (topped (plain t.form) s)
@@ -81,9 +76,3 @@ top_forms t s = in_place t (topped (plain t.form) s)
 -- units for all.
 abbrev pub expansion : Forms → Result Forms Refusal
 expansion forms = onward (each_joined top_forms forms.tops (state [] 4000000)) (λ r. Ok (record { tops = r.0 }))
-
--- What was answered is that. Memory may run out.
-abbrev pub Expands : Forms → Result Forms Stop → Type 0
-Expands forms (Ok answer) = expansion forms ≡ Ok answer
-Expands forms (Err NoMemory) = Unit {0}
-Expands forms (Err (Refused r)) = expansion forms ≡ Err r

@@ -1,6 +1,6 @@
 ghost use Rattle.std.specs.Prelude.{◌≡◌, ◌<◌, ◌^◌, IfOk};
 ghost use Rattle.std.specs.Option.{option_copied};
-ghost use Rattle.cg_pmacro.specs.Reports.{Answers, IsHalt};
+ghost use Rattle.cg_pmacro.specs.Reports.{Comes, IsHalt};
 ghost use Rattle.cg_pmacro.specs.BuiltIns as meant;
 ghost use Rattle.cg_base.specs.Parts.{word_of, elements_of};
 
@@ -27,7 +27,7 @@ pub fn misfit(alloc: Global, of: BuiltIn) -> Halt
 /// The number that the argument is.
 #[tactic(auto, using(crate::proofs::Values::value_rules))]
 pub fn number(alloc: Global, of: BuiltIn, value: &Value) -> Result<i64, Halt>
-    ensures { Answers (meant.number_for of value.now) result }
+    ensures { Comes (meant.number_for of value.now) result }
 {
     match &value.node {
         Node::Number(number) => Ok(*number),
@@ -38,7 +38,7 @@ pub fn number(alloc: Global, of: BuiltIn, value: &Value) -> Result<i64, Halt>
 /// The number that the argument is, which isn't negative.
 #[tactic(auto, using(crate::proofs::Values::value_rules))]
 pub fn natural(alloc: Global, of: BuiltIn, value: &Value) -> Result<u64, Halt>
-    ensures value { Answers (meant.natural_for of value.now) result }
+    ensures value { Comes (meant.natural_for of value.now) result }
     ensures bound { IfOk result (λ n. n < 2 ^ 63) }
 {
     match &value.node {
@@ -108,7 +108,7 @@ fn shown(alloc: Global, value: &Value) -> Result<Option<Text>, NoMemory>
 /// The texts of symbols, strings and numbers joined.
 #[tactic(auto, using(crate::proofs::Fronts::front_rules))]
 pub fn joined(alloc: Global, of: BuiltIn, args: &[Value]) -> Result<Text, Halt>
-    ensures { Answers (meant.joined of args.now) result }
+    ensures { Comes (meant.joined of args.now) result }
 {
     let mut done = Text::new(alloc);
     for arg in args {

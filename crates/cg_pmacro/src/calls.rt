@@ -1,5 +1,6 @@
 ghost use Rattle.std.specs.Prelude.{◌≡◌, ◌<◌, ◌^◌, ◌+ℤ◌, true, false, IfOk};
-ghost use Rattle.cg_pmacro.specs.Reports.{Answers};
+ghost use Rattle.std.specs.Char.{to_ascii_uppercase, to_ascii_lowercase};
+ghost use Rattle.cg_pmacro.specs.Reports.{Comes};
 ghost use Rattle.cg_pmacro.specs.Steps.{affordable};
 ghost use Rattle.cg_pmacro.specs.BuiltIns as meant;
 ghost use Rattle.cg_pmacro.specs.declared.built_in.BuiltIn.TheVariants as own;
@@ -8,16 +9,16 @@ use crate::arguments::{
     form_elements, is_false, joined, miscounted, misfit, natural, number, text, with_text,
 };
 use crate::built_in::BuiltIn;
-use crate::fault::{Fault, Halt, faulty};
+use crate::fault::{Halt, faulty};
 use crate::shapes::same_form;
-use crate::texts::{digits_needed, in_capitals, in_small_letters, last_digits};
+use crate::texts::{hex_digits, last_digits};
 use crate::value::{Node, Value};
 use cg_base::{List, NoMemory, Text};
 use std::alloc::Global;
 
 /// What a built-in gives whose arguments are all expanded before.
 pub fn ordinary(alloc: Global, of: BuiltIn, spliced: bool, args: List<Value>) -> Result<Value, Halt>
-    ensures { Answers (meant.ordinary of spliced args) result }
+    ensures { Comes (meant.ordinary of spliced args) result }
 {
     match of {
         BuiltIn::Sym => Ok(Value::symbol(alloc, joined(alloc, of, args.as_slice())?)?),
@@ -45,20 +46,19 @@ pub fn ordinary(alloc: Global, of: BuiltIn, spliced: bool, args: List<Value>) ->
 }
 
 fn error(alloc: Global, args: &[Value]) -> Result<Value, Halt>
-    ensures { Answers (meant.error_of args.now) result }
+    ensures { Comes (meant.error_of args.now) result }
 {
     let text = joined(alloc, BuiltIn::Error, args)?;
-    Err(Halt::Faulty(Fault { number: 205, text }))
+    Err(Halt::Faulty { number: 205, text })
 }
 
 fn hex(alloc: Global, args: &[Value]) -> Result<Value, Halt>
-    ensures { Answers (meant.hex_of args.now) result }
+    ensures { Comes (meant.hex_of args.now) result }
 {
     match args {
         [x] => {
             let n = natural(alloc, BuiltIn::Hex, x)?;
-            let count = digits_needed(16, n);
-            Ok(Value::string(alloc, last_digits(alloc, count, n)?)?)
+            Ok(Value::string(alloc, hex_digits(alloc, n)?)?)
         }
         [x, w] => {
             let n = natural(alloc, BuiltIn::Hex, x)?;
@@ -74,37 +74,37 @@ fn hex(alloc: Global, args: &[Value]) -> Result<Value, Halt>
 }
 
 fn upcase(alloc: Global, args: &[Value]) -> Result<Value, Halt>
-    ensures { Answers (meant.letters_of own.Upcase meant.upper args.now) result }
+    ensures { Comes (meant.letters_of own.Upcase to_ascii_uppercase args.now) result }
 {
     match args {
         [form] => {
             let Some(old) = text(form) else {
                 return Err(misfit(alloc, BuiltIn::Upcase));
             };
-            let new = in_capitals(alloc, old.as_slice())?;
-            Ok(with_text(alloc, form, new)?)
+            let new = old.as_slice().to_ascii_uppercase(alloc)?;
+            Ok(with_text(alloc, form, Text::of(alloc, new.as_slice())?)?)
         }
         _ => Err(miscounted(alloc, BuiltIn::Upcase)),
     }
 }
 
 fn downcase(alloc: Global, args: &[Value]) -> Result<Value, Halt>
-    ensures { Answers (meant.letters_of own.Downcase meant.lower args.now) result }
+    ensures { Comes (meant.letters_of own.Downcase to_ascii_lowercase args.now) result }
 {
     match args {
         [form] => {
             let Some(old) = text(form) else {
                 return Err(misfit(alloc, BuiltIn::Downcase));
             };
-            let new = in_small_letters(alloc, old.as_slice())?;
-            Ok(with_text(alloc, form, new)?)
+            let new = old.as_slice().to_ascii_lowercase(alloc)?;
+            Ok(with_text(alloc, form, Text::of(alloc, new.as_slice())?)?)
         }
         _ => Err(miscounted(alloc, BuiltIn::Downcase)),
     }
 }
 
 fn substring(alloc: Global, args: &[Value]) -> Result<Value, Halt>
-    ensures { Answers (meant.substring_of args.now) result }
+    ensures { Comes (meant.substring_of args.now) result }
 {
     match args {
         [form, i, j] => {
@@ -125,7 +125,7 @@ fn substring(alloc: Global, args: &[Value]) -> Result<Value, Halt>
 }
 
 fn unsplice(alloc: Global, spliced: bool, args: &[Value]) -> Result<Value, Halt>
-    ensures { Answers (meant.unsplice_of spliced args.now) result }
+    ensures { Comes (meant.unsplice_of spliced args.now) result }
 {
     match args {
         [list] => {
@@ -142,7 +142,7 @@ fn unsplice(alloc: Global, spliced: bool, args: &[Value]) -> Result<Value, Halt>
 /// `.iota`. Its cost is known before its list is made, and where that is more than what is left,
 /// the list isn't made.
 pub fn iota(alloc: Global, args: &[Value], left: u64) -> Result<Value, Halt>
-    ensures { Answers (affordable left (meant.iota_of args.now)) result }
+    ensures { Comes (affordable left (meant.iota_of args.now)) result }
 {
     match args {
         [n] => {
@@ -168,7 +168,7 @@ pub fn iota(alloc: Global, args: &[Value], left: u64) -> Result<Value, Halt>
 #[tactic(auto, using(crate::proofs::Numbers::number_rules))]
 fn numbers(alloc: Global, count: u64, start: i64, step: i64, left: u64) -> Result<Value, Halt>
     requires { count < 2 ^ 63 }
-    ensures { Answers (affordable left (meant.iota_from count start step)) result }
+    ensures { Comes (affordable left (meant.iota_from count start step)) result }
 {
     if !ends_within(count, start, step) {
         return Err(misfit(alloc, BuiltIn::Iota));
@@ -235,7 +235,7 @@ fn is_short(number: i128) -> bool
 }
 
 fn element(alloc: Global, args: &[Value]) -> Result<Value, Halt>
-    ensures { Answers (meant.ref_of args.now) result }
+    ensures { Comes (meant.ref_of args.now) result }
 {
     match args {
         [list, i] => {
@@ -254,7 +254,7 @@ fn element(alloc: Global, args: &[Value]) -> Result<Value, Halt>
 
 #[tactic(auto, using(crate::proofs::Values::value_rules))]
 fn length(alloc: Global, args: &[Value]) -> Result<Value, Halt>
-    ensures { Answers (meant.length_of args.now) result }
+    ensures { Comes (meant.length_of args.now) result }
 {
     match args {
         [form] => {
@@ -275,7 +275,7 @@ fn length(alloc: Global, args: &[Value]) -> Result<Value, Halt>
 
 /// The two numbers that the arguments are.
 fn two_numbers(alloc: Global, of: BuiltIn, args: &[Value]) -> Result<(i64, i64), Halt>
-    ensures { Answers (meant.two_numbers of args.now) result }
+    ensures { Comes (meant.two_numbers of args.now) result }
 {
     match args {
         [x, y] => {
@@ -288,7 +288,7 @@ fn two_numbers(alloc: Global, of: BuiltIn, args: &[Value]) -> Result<(i64, i64),
 }
 
 fn add(alloc: Global, args: &[Value]) -> Result<Value, Halt>
-    ensures { Answers (meant.ordinary own.Add false args.now) result }
+    ensures { Comes (meant.ordinary own.Add false args.now) result }
 {
     let (m, n) = two_numbers(alloc, BuiltIn::Add, args)?;
     match m.checked_add(n) {
@@ -298,7 +298,7 @@ fn add(alloc: Global, args: &[Value]) -> Result<Value, Halt>
 }
 
 fn sub(alloc: Global, args: &[Value]) -> Result<Value, Halt>
-    ensures { Answers (meant.ordinary own.Sub false args.now) result }
+    ensures { Comes (meant.ordinary own.Sub false args.now) result }
 {
     let (m, n) = two_numbers(alloc, BuiltIn::Sub, args)?;
     match m.checked_sub(n) {
@@ -308,7 +308,7 @@ fn sub(alloc: Global, args: &[Value]) -> Result<Value, Halt>
 }
 
 fn mul(alloc: Global, args: &[Value]) -> Result<Value, Halt>
-    ensures { Answers (meant.ordinary own.Mul false args.now) result }
+    ensures { Comes (meant.ordinary own.Mul false args.now) result }
 {
     let (m, n) = two_numbers(alloc, BuiltIn::Mul, args)?;
     match m.checked_mul(n) {
@@ -318,35 +318,35 @@ fn mul(alloc: Global, args: &[Value]) -> Result<Value, Halt>
 }
 
 fn less(alloc: Global, args: &[Value]) -> Result<Value, Halt>
-    ensures { Answers (meant.ordinary own.Lt false args.now) result }
+    ensures { Comes (meant.ordinary own.Lt false args.now) result }
 {
     let (m, n) = two_numbers(alloc, BuiltIn::Lt, args)?;
     Ok(Value::flag(m < n))
 }
 
 fn greater(alloc: Global, args: &[Value]) -> Result<Value, Halt>
-    ensures { Answers (meant.ordinary own.Gt false args.now) result }
+    ensures { Comes (meant.ordinary own.Gt false args.now) result }
 {
     let (m, n) = two_numbers(alloc, BuiltIn::Gt, args)?;
     Ok(Value::flag(n < m))
 }
 
 fn at_most(alloc: Global, args: &[Value]) -> Result<Value, Halt>
-    ensures { Answers (meant.ordinary own.Le false args.now) result }
+    ensures { Comes (meant.ordinary own.Le false args.now) result }
 {
     let (m, n) = two_numbers(alloc, BuiltIn::Le, args)?;
     Ok(Value::flag(m <= n))
 }
 
 fn at_least(alloc: Global, args: &[Value]) -> Result<Value, Halt>
-    ensures { Answers (meant.ordinary own.Ge false args.now) result }
+    ensures { Comes (meant.ordinary own.Ge false args.now) result }
 {
     let (m, n) = two_numbers(alloc, BuiltIn::Ge, args)?;
     Ok(Value::flag(m >= n))
 }
 
 fn equal(alloc: Global, args: &[Value]) -> Result<Value, Halt>
-    ensures { Answers (meant.eq_of args.now) result }
+    ensures { Comes (meant.eq_of args.now) result }
 {
     match args {
         [x, y] => Ok(Value::flag(same_form(x, y))),
@@ -355,7 +355,7 @@ fn equal(alloc: Global, args: &[Value]) -> Result<Value, Halt>
 }
 
 fn different(alloc: Global, args: &[Value]) -> Result<Value, Halt>
-    ensures { Answers (meant.ne_of args.now) result }
+    ensures { Comes (meant.ne_of args.now) result }
 {
     match args {
         [x, y] => Ok(Value::flag(!same_form(x, y))),
@@ -364,7 +364,7 @@ fn different(alloc: Global, args: &[Value]) -> Result<Value, Halt>
 }
 
 fn not(alloc: Global, args: &[Value]) -> Result<Value, Halt>
-    ensures { Answers (meant.not_of args.now) result }
+    ensures { Comes (meant.not_of args.now) result }
 {
     match args {
         [form] => Ok(Value::flag(is_false(form))),

@@ -1,25 +1,20 @@
 ghost use Rattle.std.specs.Prelude.{◌≡◌};
 ghost use Rattle.cg_pmacro.specs.declared.fault.Halt.TheVariants.{NoMemory as OutOfMemory};
-ghost use Rattle.cg_pmacro.specs.Outcome.{fault};
 ghost use Rattle.cg_pmacro.specs.Reports.{IsHalt};
 
 use cg_base::{NoMemory, Text};
 use std::alloc::{AllocError, Global};
 
-/// What is wrong in an expansion, without its place (docs/REFUSALS.md, 201 to 207 and 307).
-#[derive(Debug, Drop)]
-pub struct Fault {
-    /// Which refusal it is, as 201 for `E201`.
-    pub number: u16,
-    /// The macro, or what the refusal's row says.
-    pub text: Text,
-}
-
 /// Why an expansion stopped without its form.
 #[derive(Debug, Drop)]
 pub enum Halt {
-    /// The description is at fault.
-    Faulty(Fault),
+    /// The description is at fault (docs/REFUSALS.md, 201 to 207 and 307).
+    Faulty {
+        /// The number of its refusal, as 201 for `E201`.
+        number: u16,
+        /// The text of its refusal: the macro, or what the refusal's row says.
+        text: Text,
+    },
     /// Memory ran out.
     NoMemory,
 }
@@ -43,10 +38,10 @@ impl From<AllocError> for Halt {
 /// What the fault of that number with that text comes to.
 #[inline(never)]
 pub fn faulty(alloc: Global, number: u16, text: &[u8]) -> Halt
-    ensures { IsHalt (fault number text.now) result }
+    ensures { IsHalt (number, text.now) result }
 {
     match Text::of(alloc, text) {
-        Ok(text) => Halt::Faulty(Fault { number, text }),
+        Ok(text) => Halt::Faulty { number, text },
         Err(_) => Halt::NoMemory,
     }
 }

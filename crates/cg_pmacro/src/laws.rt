@@ -1,9 +1,9 @@
-ghost use Rattle.std.specs.Prelude.{◌≡◌, ℕ, suc, Bool, List as Listed, [], ◌∷◌, Ok};
+ghost use Rattle.std.specs.Prelude.{◌≡◌, ◌↔◌, ℕ, suc, Bool, true, List as Listed, [], ◌∷◌, Ok};
 ghost use Rattle.cg_base.specs.declared.form.Form.{Form as Shown};
 ghost use Rattle.cg_pmacro.specs.declared.body.Body.{Body as Written};
 ghost use Rattle.cg_pmacro.specs.declared.body.Body.TheVariants.{Quoted as LeafOf};
 ghost use Rattle.cg_pmacro.specs.declared.body.Macro.{Macro as Known};
-ghost use Rattle.cg_pmacro.specs.Shapes.{plain as plain_of};
+ghost use Rattle.cg_pmacro.specs.Shapes.{same_form, plain as plain_of};
 ghost use Rattle.cg_pmacro.specs.Expansion.{expanded, kind_of, macro_call};
 ghost use Rattle.cg_pmacro.specs.Laws.{CallLeaves, AtRest};
 
@@ -23,4 +23,10 @@ pub fn call_leaves()
 /// lists may stand so deep.
 pub fn unchanged_at_rest()
     ensures { (macros : Listed Known) (depth : ℕ) (inner : Listed ℕ) (in_splice : Bool) (read : Shown) (left : ℕ) → AtRest macros depth (read ∷ []) → expanded macros depth inner in_splice (plain_of read) left ≡ Ok (read, left) }
+{}
+
+/// A law of the definitions: two forms count as the same, as `.eq`, `.ne` and `.case` compare them,
+/// exactly where they are equal.
+pub fn same_form_is_equality()
+    ensures { (one other : Shown) → (same_form one other ≡ true) ↔ (one ≡ other) }
 {}

@@ -5,19 +5,15 @@ mod arguments;
 mod body;
 mod built_in;
 mod calls;
-#[cfg(test)]
-mod cases;
 mod expander;
 mod fault;
 mod laws;
 mod replacing;
 mod shapes;
 mod sizes;
-#[cfg(test)]
-mod tests;
 mod texts;
 mod tops;
 mod value;
 
-pub use laws::{call_leaves, quoted_leaf_is_free, unchanged_at_rest};
-pub use tops::{SHORT_FORMS, expand};
+pub use laws::{call_leaves, quoted_leaf_is_free, same_form_is_equality, unchanged_at_rest};
+pub use tops::{SHORT_FORMS, expand, short_forms};

@@ -5,7 +5,7 @@ ghost use Rattle.cg_pmacro.specs.Steps.{hiding as hiding_of, bindings_replaced a
 ghost use Rattle.cg_pmacro.specs.Shapes.{head_name, first_symbol as first_symbol_of};
 
 use crate::body::{Binding, Body};
-use crate::shapes::{called, copy, elements, is_among, is_named, own_symbol, same_text};
+use crate::shapes::{called, copy, elements, is_among, is_named, own_symbol};
 use crate::sizes::levels;
 use cg_base::{List, NoMemory, Text};
 use std::alloc::Global;
@@ -24,7 +24,7 @@ pub fn without(alloc: Global, table: &[Binding], names: &[Text]) -> Result<List<
 {
     let mut rest = List::new(alloc);
     for binding in table {
-        if !is_among(binding.name.as_slice(), names) {
+        if !is_among(names, binding.name.as_slice()) {
             rest.push(Binding {
                 name: binding.name.clone()?,
                 value: binding.value.clone()?,
@@ -51,7 +51,7 @@ fn looked_up(table: &[Binding], name: &Text) -> Result<Body, NoMemory>
     ensures { IfOk result (λ body. body ≡ meant.looked_up table.now name.now) }
 {
     for binding in table {
-        if same_text(binding.name.as_slice(), name.as_slice()) {
+        if binding.name.as_slice() == name.as_slice() {
             return Ok(Body::Quoted(binding.value.clone()?));
         }
     }

@@ -1,6 +1,7 @@
 ghost use Rattle.std.specs.Prelude.{◌≡◌, IfOk};
 ghost use Rattle.std.specs.Option.{option_copied, option_map};
 ghost use Rattle.cg_base.specs.Parts.{symbol_of};
+ghost use Rattle.cg_base.specs.Texts.{is_named as named_so, is_among as stands_among};
 ghost use Rattle.cg_pmacro.specs.Shapes as seen;
 
 use crate::body::{Body, Macro};
@@ -67,13 +68,6 @@ pub fn copy(alloc: Global, body: &Body) -> Result<Body, NoMemory>
     }
 }
 
-/// Whether two texts have the same bytes.
-pub fn same_text(a: &[u8], b: &[u8]) -> bool
-    ensures { result ≡ seen.same_text a.now b.now }
-{
-    a == b
-}
-
 /// Whether two forms are of the same kind with the same content.
 pub fn same_form(a: &Value, b: &Value) -> bool
     ensures { result ≡ seen.same_form a.now b.now }
@@ -137,10 +131,10 @@ pub fn head_name(items: &[Body]) -> Option<&Text>
 
 /// Whether it is a text, and this one.
 pub fn is_named(name: &[u8], found: Option<&Text>) -> bool
-    ensures { result ≡ seen.is_named name.now (option_copied found.entry) }
+    ensures { result ≡ named_so name.now (option_copied found.entry) }
 {
     match found {
-        Some(text) => same_text(text.as_slice(), name),
+        Some(text) => text.as_slice() == name,
         None => false,
     }
 }
@@ -177,16 +171,6 @@ pub fn pmacro_form(body: &Body) -> Option<&[Body]>
     }
 }
 
-/// The elements of a `.pmacro` form in the place of a list's head.
-pub fn pmacro_head(items: &[Body]) -> Option<&[Body]>
-    ensures { option_copied result ≡ seen.pmacro_head items.now }
-{
-    match items {
-        [] => None,
-        [head, ..] => pmacro_form(head),
-    }
-}
-
 /// The two elements of a list of two.
 pub fn pair_of(body: &Body) -> Option<(&Body, &Body)>
     ensures { option_map (λ p. (p.0.now, p.1.now)) result ≡ seen.pair_of body.now }
@@ -209,23 +193,43 @@ pub fn macro_named<'m>(macros: &'m [Macro], name: &[u8]) -> Option<&'m Macro>
     ensures { option_copied result ≡ seen.macro_named macros.now name.now }
 {
     for each in macros {
-        if same_text(each.name.as_slice(), name) {
+        if each.name.as_slice() == name {
             return Some(each);
         }
     }
     None
 }
 
-/// Whether the name stands among the names.
-pub fn is_among(name: &[u8], names: &[Text]) -> bool
-    ensures { result ≡ seen.is_among name.now names.now }
+/// Whether the text is one of these.
+pub fn is_among(texts: &[Text], text: &[u8]) -> bool
+    ensures { result ≡ stands_among texts.now text.now }
 {
-    for each in names {
-        if same_text(each.as_slice(), name) {
+    for each in texts {
+        if each.as_slice() == text {
             return true;
         }
     }
     false
+}
+
+/// The names of formals, which are distinct symbols. None where they aren't.
+#[tactic(auto, using(crate::proofs::Names::name_rules))]
+pub fn names_of(alloc: Global, formals: &[Body]) -> Result<Option<List<Text>>, NoMemory>
+    ensures { IfOk result (λ names. names ≡ seen.names_of formals.now) }
+{
+    let mut names = List::new(alloc);
+    for formal in formals {
+        match own_symbol(formal) {
+            Some(name) => {
+                if is_among(names.as_slice(), name.as_slice()) {
+                    return Ok(None);
+                }
+                names.push(name.clone()?)?;
+            }
+            None => return Ok(None),
+        }
+    }
+    Ok(Some(names))
 }
 
 /// Whether the text begins with a dot.

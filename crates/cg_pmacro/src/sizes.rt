@@ -1,6 +1,6 @@
 ghost use Rattle.std.specs.Prelude.{◌≡◌, ◌-◌, ◌≤◌, ◌↔◌, IsTrue, SomeIff, IfOk};
 ghost use Rattle.cg_pmacro.specs.Sizes.{nodes, lists, levels as how_deep};
-ghost use Rattle.cg_pmacro.specs.Reports.{Gives};
+ghost use Rattle.cg_pmacro.specs.Reports.{Leaves};
 ghost use Rattle.cg_pmacro.specs.Expansion.{charge as cost_of};
 
 use crate::body::Body;
@@ -85,7 +85,7 @@ pub fn levels(body: &Body) -> Result<u64, NoMemory>
 
 /// The result of a call, once its cost is taken from the units that are left.
 pub fn charge(alloc: Global, name: &[u8], value: Value, left: &mut u64) -> Result<Value, Halt>
-    ensures { Gives (cost_of name.now value left.old) result left.new }
+    ensures { Leaves (cost_of name.now value left.old) result left.new }
 {
     let Some(before) = left.checked_sub(1) else {
         return Err(faulty(alloc, 203, b"4000000"));

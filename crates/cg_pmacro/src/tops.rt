@@ -1,24 +1,26 @@
 ghost use Rattle.std.specs.Prelude.{◌≡◌, ◌++◌, map, drop, OnOk};
 ghost use Rattle.std.specs.Option.{option_copied};
-ghost use Rattle.cg_pmacro.specs.Outcome.{each_joined, fault};
+ghost use Rattle.cg_base.specs.Answering.{Stops, Gives};
+ghost use Rattle.cg_pmacro.specs.Outcome.{each_joined};
 ghost use Rattle.cg_pmacro.specs.Definitions as defining;
 ghost use Rattle.cg_pmacro.specs.Splitting as splitting;
-ghost use Rattle.cg_pmacro.specs.Reports.{Answers, IsHalt};
-ghost use Rattle.cg_pmacro.specs.Steps.{GivesTop, stopped as stopped_so};
+ghost use Rattle.cg_pmacro.specs.Reports.{Comes, IsHalt};
+ghost use Rattle.cg_pmacro.specs.Steps.{LeavesTop, AnswersTop, Refuses};
 ghost use Rattle.cg_pmacro.specs.Shapes.{plain as plain_of};
+ghost use Rattle.cg_pmacro.specs.ShortForms as short;
 ghost use Rattle.cg_pmacro.specs.Tops as meant;
 
 use crate::arguments::form_elements;
 use crate::body::{Body, Macro};
-use crate::expander::{expand as expand_form, names_of};
-use crate::fault::{Fault, Halt, faulty};
+use crate::expander::expand as expand_form;
+use crate::fault::{Halt, faulty};
 use crate::shapes::{
     begins_with_dot, copy, elements, form_symbol, head_name, is_list, is_named, macro_named,
-    own_symbol, plain,
+    names_of, own_symbol, plain,
 };
 use crate::sizes::{form_depth, levels};
 use crate::value::Value;
-use cg_base::{Form, Forms, List, NoMemory, Refusal, Stop, Text, Top};
+use cg_base::{Fault, Form, Forms, List, NoMemory, Stop, Text, Top, stop_at};
 use std::alloc::Global;
 
 /// What `(include "simplify.inc")` reads: the short forms of definitions
@@ -34,6 +36,13 @@ pub const SHORT_FORMS: &[u8] =
 (define-pmacro (dnmi n c a s e) (define-macro-insn (name n) (comment c) (.splice attrs (.unsplice a)) (syntax s) (expansions e)))\n\
 ";
 
+/// The same text.
+pub fn short_forms() -> &'static [u8]
+    ensures { result.now ≡ short.short_forms }
+{
+    SHORT_FORMS
+}
+
 /// How many units the expansions of a description cost at most.
 const BUDGET: u64 = 4_000_000;
 
@@ -46,36 +55,47 @@ const DEPTH: u32 = 1_000;
 /// and E307 in the order of expansion, at the top form where it comes (docs/REFUSALS.md).
 #[tactic(auto, using(crate::proofs::TopRules::top_rules))]
 pub fn expand(alloc: Global, forms: &Forms) -> Result<Forms, Stop>
-    ensures { meant.Expands forms.now result }
+    ensures { Gives (meant.expansion forms.now) result }
 {
     let mut macros = List::new(alloc);
     let mut left = BUDGET;
     let mut tops = List::new(alloc);
     for top in forms.tops.as_slice() {
-        let outcome = expand_top(alloc, &mut macros, &mut left, top);
-        let parts = stopped(alloc, outcome, top)?;
+        let parts = expand_top(alloc, &mut macros, &mut left, top)?;
         place(parts, top, &mut tops)?;
     }
     Ok(Forms { tops })
 }
 
-/// What came of a top form; a fault stops with its refusal.
-fn stopped(alloc: Global, outcome: Result<List<Form>, Halt>, top: &Top) -> Result<List<Form>, Stop>
-    ensures { result ≡ stopped_so top.now outcome }
+/// The forms that a top form stands for, or what stops at it.
+#[tactic(auto, using(crate::proofs::TopRules::refused_at_top))]
+fn expand_top(
+    alloc: Global,
+    macros: &mut List<Macro>,
+    left: &mut u64,
+    top: &Top,
+) -> Result<List<Form>, Stop>
+    ensures { AnswersTop top.now (meant.topped (plain_of top.now.form) (meant.state macros.old left.old)) result macros.new left.new }
 {
-    match outcome {
+    match forms_of(alloc, macros, left, &top.form) {
         Ok(forms) => Ok(forms),
-        Err(Halt::Faulty(fault)) => {
-            let Fault { number, text } = fault;
-            Err(Stop::Refused(Refusal {
+        Err(halt) => Err(stopped(alloc, top, halt)),
+    }
+}
+
+/// What came to a halt in a top form stops with its refusal.
+fn stopped(alloc: Global, top: &Top, halt: Halt) -> Stop
+    ensures { Stops (Refuses top.now halt) result }
+{
+    match halt {
+        Halt::Faulty { number, text } => {
+            let fault = Fault {
                 number,
-                file: top.file,
-                line: top.line,
-                text,
-                other: Text::new(alloc),
-            }))
+                text: text.as_slice(),
+            };
+            stop_at(alloc, top.file, top.line, fault)
         }
-        Err(Halt::NoMemory) => Err(Stop::NoMemory),
+        Halt::NoMemory => Stop::NoMemory,
     }
 }
 
@@ -93,16 +113,16 @@ fn place(forms: List<Form>, top: &Top, tops: &mut List<Top>) -> Result<(), NoMem
     Ok(())
 }
 
-/// The forms that a top form stands for.
-fn expand_top(
+/// The forms that a form stands for as a top form.
+fn forms_of(
     alloc: Global,
     macros: &mut List<Macro>,
     left: &mut u64,
-    top: &Top,
+    form: &Form,
 ) -> Result<List<Form>, Halt>
-    ensures { GivesTop (meant.topped (plain_of top.now.form) (meant.state macros.old left.old)) result macros.new left.new }
+    ensures { LeavesTop (meant.topped (plain_of form.now) (meant.state macros.old left.old)) result macros.new left.new }
 {
-    let body = plain(alloc, &top.form)?;
+    let body = plain(alloc, form)?;
     let depth = levels(&body)?;
     Ok(expand_part(alloc, depth, macros, left, &body)?)
 }
@@ -117,7 +137,7 @@ fn expand_part(
     left: &mut u64,
     body: &Body,
 ) -> Result<List<Form>, Halt>
-    ensures { GivesTop (meant.top_to depth body.now (meant.state macros.old left.old)) result macros.new left.new }
+    ensures { LeavesTop (meant.top_to depth body.now (meant.state macros.old left.old)) result macros.new left.new }
 {
     let Some(items) = elements(body) else {
         return Ok(expand_result(alloc, macros, left, body)?);
@@ -150,7 +170,7 @@ fn expand_parts(
     left: &mut u64,
     items: &[Body],
 ) -> Result<List<Form>, Halt>
-    ensures { GivesTop (each_joined (meant.top_to depth) (drop 1 items.now) (meant.state macros.old left.old)) result macros.new left.new }
+    ensures { LeavesTop (each_joined (meant.top_to depth) (drop 1 items.now) (meant.state macros.old left.old)) result macros.new left.new }
 {
     let mut done = List::new(alloc);
     for item in behind_head(items) {
@@ -183,7 +203,7 @@ fn expand_result(
     left: &mut u64,
     body: &Body,
 ) -> Result<List<Form>, Halt>
-    ensures { GivesTop (meant.top_expanded body.now (meant.state macros.now left.old)) result macros.now left.new }
+    ensures { LeavesTop (meant.top_expanded body.now (meant.state macros.now left.old)) result macros.now left.new }
 {
     let value = expand_form(alloc, macros.as_slice(), DEPTH, b"", false, body, left)?;
     let depth = form_depth(&value)?;
@@ -194,7 +214,7 @@ fn expand_result(
 #[cycle(splitting)]
 #[tactic(auto, using(crate::proofs::TopRules::top_rules))]
 fn split(alloc: Global, depth: u64, value: &Value) -> Result<List<Form>, Halt>
-    ensures { Answers (splitting.split_to depth value.now) result }
+    ensures { Comes (splitting.split_to depth value.now) result }
 {
     let head = form_head(value);
     if is_named(b"begin", head) {
@@ -217,7 +237,7 @@ fn split(alloc: Global, depth: u64, value: &Value) -> Result<List<Form>, Halt>
 #[cycle(splitting)]
 #[tactic(auto, using(crate::proofs::TopRules::top_rules))]
 fn split_parts(alloc: Global, depth: u64, value: &Value) -> Result<List<Form>, Halt>
-    ensures { Answers (splitting.split_each (splitting.split_to depth) (splitting.behind_head value.now)) result }
+    ensures { Comes (splitting.split_each (splitting.split_to depth) (splitting.behind_head value.now)) result }
 {
     let mut done = List::new(alloc);
     for item in form_behind_head(value) {
@@ -248,7 +268,7 @@ fn form_head(value: &Value) -> Option<&Text>
 
 /// The macro of a definition.
 fn definition(alloc: Global, macros: &[Macro], items: &[Body]) -> Result<Macro, Halt>
-    ensures { Answers (defining.definition macros.now items.now) result }
+    ensures { Comes (defining.definition macros.now items.now) result }
 {
     match items {
         [_, named, body] => Ok(define(alloc, macros, named, body)?),
@@ -271,7 +291,7 @@ fn is_string(body: &Body) -> bool
 }
 
 fn misdefined(alloc: Global, name: Option<&Text>) -> Halt
-    ensures { IsHalt (fault 202 (defining.name_or_word (option_copied name.entry))) result }
+    ensures { IsHalt (202, defining.name_or_word (option_copied name.entry)) result }
 {
     match name {
         Some(name) => faulty(alloc, 202, name.as_slice()),
@@ -291,7 +311,7 @@ fn defined_name(named: &Body) -> Option<&Text>
 }
 
 fn define(alloc: Global, macros: &[Macro], named: &Body, body: &Body) -> Result<Macro, Halt>
-    ensures { Answers (defining.defined_as macros.now named.now body.now) result }
+    ensures { Comes (defining.defined_as macros.now named.now body.now) result }
 {
     let Some(name) = defined_name(named) else {
         return Err(misdefined(alloc, None));
@@ -303,7 +323,7 @@ fn define(alloc: Global, macros: &[Macro], named: &Body, body: &Body) -> Result<
 }
 
 fn macro_of(alloc: Global, name: &Text, named: &Body, body: &Body) -> Result<Macro, Halt>
-    ensures { Answers (defining.macro_of name.now named.now body.now) result }
+    ensures { Comes (defining.macro_of name.now named.now body.now) result }
 {
     match elements(named) {
         Some(items) => match names_of(alloc, behind_head(items))? {
