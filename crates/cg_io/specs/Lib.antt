@@ -1,4 +1,5 @@
 pub mod Causes
+pub mod Asking
 pub mod Held
 pub mod Calls
 pub mod Host

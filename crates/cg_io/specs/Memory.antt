@@ -3,6 +3,7 @@ use Rattle.std.specs.Prelude.{◌≡◌, ℕ, nat_lt, List, length, map, reverse
 use Rattle.std.specs.Coded.{Coded, code_by, coded×, coded_list, coded_ℕ}
 use Rattle.std.specs.FinMap.{from_entries, get, code}
 use Rattle.std.specs.declared.alloc.Global.{Global}
+use Rattle.cg_io.specs.Asking.{Asking, askings_code}
 use Rattle.cg_io.specs.Calls.{calls_code}
 use Rattle.cg_io.specs.declared.calls.Calls.{Calls}
 use Rattle.cg_io.specs.declared.files.FileFault.{FileFault}
@@ -10,21 +11,22 @@ use Rattle.cg_io.specs.declared.files.FileFault.TheVariants.{Missing, TooLong, F
 use Rattle.cg_io.specs.declared.memory.Entry.{Entry}
 use Rattle.cg_io.specs.Held.{Held}
 
--- files in memory: what they hold, and which of their calls fail
+-- files in memory: what they hold, which of their calls fail, and what they were asked for
 pub record MemoryFiles : Type 0 where
   pub held : Held
   pub calls : Calls
+  pub asked : List Asking
 
 -- a sink in memory: what was put, and which of its calls fail
 pub record MemorySink : Type 0 where
   pub wrote : List ℕ
   pub calls : Calls
 
--- files are stored as the pair of their fields
+-- files are stored as the tuple of their fields
 abbrev pub files_code : Coded MemoryFiles
 files_code =
-    code_by (Held × Calls) (coded× (code (coded_list coded_ℕ) (coded_list coded_ℕ)) calls_code)
-    (λ f. (f.held, f.calls)) (λ p. record { held = p.0; calls = p.1 }) (λ _. refl)
+    code_by (Held × (Calls × List Asking)) (coded× (code (coded_list coded_ℕ) (coded_list coded_ℕ)) (coded× calls_code askings_code))
+    (λ f. (f.held, (f.calls, f.asked))) (λ p. record { held = p.0; calls = p.1.0; asked = p.1.1 }) (λ _. refl)
 
 -- and so is a sink
 abbrev pub sink_code : Coded MemorySink

@@ -1,4 +1,5 @@
-ghost use Rattle.std.specs.Prelude.{◌≡◌, ◌⊎◌, ◌≤◌, ℕ, List, Option, length, is_some, IfOk, OnOk, OnErr, IsErrOf};
+ghost use Rattle.std.specs.Prelude.{◌≡◌, ◌⊎◌, ◌≤◌, ℕ, List, [], ◌∷◌, Option, length, is_some, IfOk, OnOk, OnErr, IsErrOf};
+ghost use Rattle.cg_io.specs.Asking.{Asking};
 ghost use Rattle.cg_io.specs.Causes.{Rose};
 ghost use Rattle.cg_io.specs.Held.{Held, HasBytes, Lacks, HasMore, written, KeepsOthers, appended, AppendsFront};
 
@@ -83,6 +84,10 @@ pub trait Files {
     /// Which bytes stand under which name, where the object tells it.
     ghost held: { Self → Option Held };
 
+    /// Which names `read` was asked for so far, each with its limit, in order, where the object
+    /// tells it. A call has asked whatever it answers, also where memory ran out.
+    ghost asked: { Self → Option (List Asking) };
+
     /// How many calls have met a fault of the outside. It never falls, and stays at 2^64 - 1.
     ghost faults: { Self → ℕ };
 
@@ -97,6 +102,7 @@ pub trait Files {
             HasMore (held self.old) name.now limit ⊎ Rose (faults self.old) (faults self.new) }
         ensures failed { IsErrOf result FileFault.Failed →
             Rose (faults self.old) (faults self.new) }
+        ensures asked { asked self.new ≡ appended (asked self.old) ((name.now, limit) ∷ []) }
         ensures same { held self.new ≡ held self.old }
         ensures later { faults self.old ≤ faults self.new };
 
@@ -108,6 +114,7 @@ pub trait Files {
             Rose (faults self.old) (faults self.new)
             × KeepsOthers (held self.old) (held self.new) name.now }
         ensures memory { IsErrOf result WriteFault.NoMemory → held self.new ≡ held self.old }
+        ensures asked { asked self.new ≡ asked self.old }
         ensures tells { is_some (held self.new) ≡ is_some (held self.old) }
         ensures later { faults self.old ≤ faults self.new };
 }

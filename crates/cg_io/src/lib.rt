@@ -6,9 +6,8 @@ mod calls;
 mod files;
 mod host;
 mod memory;
+mod past;
 mod sink;
-#[cfg(test)]
-mod tests;
 
 pub use files::{FileFault, Files, Sink, WriteFault};
 pub use host::{HostFiles, HostSink};

@@ -1,10 +1,11 @@
-ghost use Rattle.std.specs.Prelude.{◌≡◌, ◌≤◌, Some, true, false, IfOk, OnOk, OnErr, IsErrOf};
+ghost use Rattle.std.specs.Prelude.{◌≡◌, ◌≤◌, [], ◌∷◌, ◌++◌, Some, true, false, IfOk, OnOk, OnErr, IsErrOf};
 ghost use Rattle.std.specs.Option.{option_copied};
 ghost use Rattle.std.specs.FinMap as map;
 ghost use Rattle.cg_io.specs.Calls.{no_calls, will_fail, after_call, faults_of};
 ghost use Rattle.cg_io.specs.Memory.{held_by, read_from, AnswersOrNoMemory};
 
 use crate::calls::Calls;
+use crate::past::Past;
 use crate::{FileFault, Files, WriteFault};
 use cg_base::{List, NoMemory, Text};
 use std::alloc::Global;
@@ -17,13 +18,14 @@ pub struct Entry {
     pub bytes: Text,
 }
 
-/// Files in memory. They tell what they hold, and those calls fail whose numbers they were
+/// Files in memory. They tell what they hold and what they were asked for, and those calls fail whose numbers they were
 /// given: the first call of `read` or `write` has number 0, the next 1, whatever it answers.
-#[derive(Debug, Drop)]
+#[derive(Drop)]
 pub struct MemFiles {
     /// The files, of which the last of a name stands.
     entries: List<Entry>,
     calls: Calls,
+    past: Past,
 }
 
 impl Model for MemFiles {
@@ -33,7 +35,8 @@ impl Model for MemFiles {
 
     ghost coded = { files_code };
 
-    ghost view = { λ files. record { held = held_by files.entries; calls = files.calls } };
+    ghost view = { λ files.
+        record { held = held_by files.entries; calls = files.calls; asked = files.past.asked } };
 }
 
 /// The bytes of the last entry of a name.
@@ -59,11 +62,12 @@ impl MemFiles {
         failing: List<u64>,
     ) -> Result<MemFiles, NoMemory>
         ensures { IfOk result (λ files.
-            files ≡ record { held = held_by entries; calls = no_calls failing }) }
+            files ≡ record { held = held_by entries; calls = no_calls failing; asked = [] }) }
     {
         Ok(MemFiles {
             entries,
             calls: Calls::new(failing),
+            past: Past::new(),
         })
     }
 
@@ -78,6 +82,8 @@ impl MemFiles {
 impl Files for MemFiles {
     ghost held = { λ files. Some files.held };
 
+    ghost asked = { λ files. Some files.asked };
+
     ghost faults = { λ files. faults_of files.calls };
 
     fn read(&mut self, alloc: Global, name: &Text, limit: u64) -> Result<Vec<u8>, FileFault>
@@ -85,9 +91,13 @@ impl Files for MemFiles {
         ensures fails { will_fail self.old.calls ≡ true → IsErrOf result FileFault.Failed }
         ensures answers { will_fail self.old.calls ≡ false →
             AnswersOrNoMemory result (read_from self.old.held name.now limit) }
-        ensures counted { self.new ≡ record self.old { calls = after_call self.old.calls } }
+        ensures counted { self.new ≡ record self.old {
+          calls = after_call self.old.calls;
+          asked = self.old.asked ++ (name.now, limit) ∷ [];
+        } }
         ensures later { faults_of self.old.calls ≤ faults_of self.new.calls }
     {
+        self.past = self.past.with(name, &limit);
         if self.calls.count() {
             return Err(FileFault::Failed);
         }
@@ -109,6 +119,7 @@ impl Files for MemFiles {
         ensures fails { will_fail self.old.calls ≡ true → IsErrOf result WriteFault.Failed }
         ensures only { IsErrOf result WriteFault.Failed → will_fail self.old.calls ≡ true }
         ensures counted { self.new.calls ≡ after_call self.old.calls }
+        ensures asked { self.new.asked ≡ self.old.asked }
         ensures later { faults_of self.old.calls ≤ faults_of self.new.calls }
     {
         if self.calls.count() {
