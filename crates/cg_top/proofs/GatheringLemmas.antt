@@ -17,12 +17,12 @@ use Rattle.cg_top.specs.Gathering.{no_sources, IsLacking, HasText, with_file, wi
 pub behind_both : (xs ys : List Top) (f : Fetched) → behind xs (behind ys f) ≡ behind (xs ++ ys) f
 behind_both xs ys (Read forms names) = ap (λ (tops : List Top). Read (record { tops = tops }) names) (sym (append_assoc xs ys forms.tops))
 behind_both xs ys (Refused refusal names) = refl
-behind_both xs ys (Unread name) = refl
+behind_both xs ys (Unread name names) = refl
 
 pub behind_none : (f : Fetched) → behind [] f ≡ f
 behind_none (Read forms names) = refl
 behind_none (Refused refusal names) = refl
-behind_none (Unread name) = refl
+behind_none (Unread name names) = refl
 
 -- what comes behind no forms is the reading itself
 pub comes_first : {held : Option Held} {fault : Type 0} {desc : List ℕ} {s : Sources} {passed pending : List Top} {fetched : Fetched} →
@@ -88,8 +88,8 @@ module _ {held : Option Held} {fault : Type 0} (s : Sources) (tops passed new : 
   gathered_another x e i m = record { rest = Refused (too_many x) s.names; comes = another e i m refl; same = refl }
 
 module _ {held : Option Held} {fault : Type 0} (s : Sources) (name : List ℕ) (tops passed : List Top) where
-  pub opened_unread : IsLacking held name ⊎ fault → ComesBehind passed (Opens held fault s name tops) (Unread name)
-  opened_unread x = record { rest = Unread name; comes = unread x; same = refl }
+  pub opened_unread : IsLacking held name ⊎ fault → ComesBehind passed (Opens held fault s name tops) (Unread name s.names)
+  opened_unread x = record { rest = Unread name s.names; comes = unread x; same = refl }
 
   pub opened_refused : (bytes : List ℕ) (refusal : Refusal) → HasText held name bytes → IsFault bytes (length s.names) refusal →
       ComesBehind passed (Opens held fault s name tops) (Refused refusal (s.names ++ name ∷ []))

@@ -4,4 +4,5 @@ pub mod ShortForms
 pub mod GatheringLemmas
 pub mod OneReading
 pub mod AnswerLemmas
-pub mod RowLemmas
+pub mod SomeReading
+pub mod AskedLemmas

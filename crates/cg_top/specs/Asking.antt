@@ -1,7 +1,8 @@
 -- What the words of a command ask.
 use Rattle.std.specs.Prelude.{ℕ, ◌+◌, ◌-◌, ◌*◌, ◌&&◌, nat_le, if◌then◌else◌, List, [], ◌∷◌, length, Option, Some, None, codes}
 use Rattle.cg_base.specs.Parts.{◌>>=◌}
-use Rattle.cg_top.specs.Shape.{same, three}
+use Rattle.cg_base.specs.Texts.{same_text}
+use Rattle.cg_top.specs.Shape.{three}
 use Rattle.cg_top.specs.declared.asking.Asked.{Asked}
 use Rattle.cg_top.specs.declared.asking.Command.TheVariants.{Decode}
 
@@ -31,7 +32,7 @@ decode_asked words = do
   Some (record { desc = x.0; mach = x.1; command = Decode bytes })
 
 abbrev pub asked_by : List ℕ → List (List ℕ) → Option Asked
-asked_by command words = if same command (codes "decode") then decode_asked words else None
+asked_by command words = if same_text command (codes "decode") then decode_asked words else None
 
 -- What the words ask: the first is the command.
 abbrev pub asked : List (List ℕ) → Option Asked

@@ -5,6 +5,7 @@ use Rattle.cg_base.specs.declared.form.Top.{Top}
 use Rattle.cg_base.specs.declared.form.Forms.{Forms}
 use Rattle.cg_base.specs.declared.refusal.Refusal.{Refusal}
 use Rattle.cg_base.specs.Reading.{Reads, IsFault}
+use Rattle.cg_base.specs.Refusing.{refusal_at}
 use Rattle.cg_io.specs.Held.{Held, HasBytes, Lacks, HasMore}
 use Rattle.cg_pmacro.specs.declared.tops.TheConstants.{SHORT_FORMS}
 use Rattle.cg_top.specs.declared.gathering.Fetched.{Fetched}
@@ -44,7 +45,7 @@ may_include sources = nat_le (length sources.names) 64
 
 -- The 65th include is refused with its name.
 abbrev pub too_many : Include → Refusal
-too_many include = record { number = 106; file = include.file; line = include.line; text = include.name; other = [] }
+too_many include = refusal_at include.file include.line (106, include.name)
 
 -- The short forms have the file and line of their include.
 abbrev pub placed : Include → Top → Top
@@ -54,12 +55,12 @@ placed include top = record { form = top.form; file = include.file; line = inclu
 abbrev pub behind : List Top → Fetched → Fetched
 behind tops (Read forms names) = Read (record { tops = tops ++ forms.tops }) names
 behind tops (Refused refusal names) = Refused refusal names
-behind tops (Unread name) = Unread name
+behind tops (Unread name names) = Unread name names
 
 mutual
   -- What reading a file gives, whose forms come in front of these. It can't be read where it is lacking or a fault came.
   pub data Opens (held : Option Held) (fault : Type 0) : Sources → List ℕ → List Top → Fetched → Type 0 where
-    unread : {sources : Sources} {name : List ℕ} {tops : List Top} → IsLacking held name ⊎ fault → Opens held fault sources name tops (Unread name)
+    unread : {sources : Sources} {name : List ℕ} {tops : List Top} → IsLacking held name ⊎ fault → Opens held fault sources name tops (Unread name sources.names)
     refused : {sources : Sources} {name bytes : List ℕ} {tops : List Top} {refusal : Refusal} → HasText held name bytes →
         IsFault bytes (length sources.names) refusal → Opens held fault sources name tops (Refused refusal (sources.names ++ name ∷ []))
     read : {sources : Sources} {name bytes : List ℕ} {tops : List Top} {forms : Forms} {fetched : Fetched} → HasText held name bytes →

@@ -3,16 +3,17 @@ use Rattle.std.specs.Prelude.{ℕ, Bool, ◌&&◌, if◌then◌else◌, List, []
 use Rattle.cg_base.specs.declared.Form.{Form}
 use Rattle.cg_base.specs.declared.form.Top.{Top}
 use Rattle.cg_base.specs.Parts.{◌>>=◌, string_of}
-use Rattle.cg_top.specs.Shape.{same, clause}
+use Rattle.cg_base.specs.Texts.{same_text}
+use Rattle.cg_top.specs.Shape.{one_behind}
 use Rattle.cg_top.specs.declared.including.Include.{Include}
 
 -- The file that `(include "NAME")` asks for.
 unfoldable pub included : Form → Option (List ℕ)
-included form = clause (codes "include") form >>= string_of
+included form = one_behind (codes "include") form >>= string_of
 
 -- This name asks for the short forms, and for no file.
 abbrev pub is_short : List ℕ → Bool
-is_short name = same name (codes "simplify.inc")
+is_short name = same_text name (codes "simplify.inc")
 
 -- Forms up to an include: those before it, the include if there is one, and those behind it.
 pub record Parted : Type 0 where

@@ -1,7 +1,7 @@
 pub mod Shape
 pub mod Names
 pub mod Asking
-pub mod Gives
+pub mod Fitting
 pub mod Thin
 pub mod Matching
 pub mod Loading
@@ -11,4 +11,3 @@ pub mod Fetching
 pub mod Replies
 pub mod Answer
 pub mod Top
-pub mod Rows

@@ -65,4 +65,4 @@ described asked forms names = performed_on asked names (loaded forms asked.mach)
 abbrev pub reply_to : Asked → Fetched → Reply
 reply_to asked (Read forms names) = described asked forms names
 reply_to asked (Refused refusal names) = refused asked.desc names refusal
-reply_to asked (Unread name) = cannot_read name
+reply_to asked (Unread name names) = cannot_read name

@@ -1,12 +1,8 @@
 -- What stands in a form.
-use Rattle.std.specs.Prelude.{ℕ, Bool, true, false, nat_eq, if◌then◌else◌, List, [], ◌∷◌, Option, Some, None, is_some, codes}
-use Rattle.std.specs.Cmp.Lexicographic.{pointwise}
+use Rattle.std.specs.Prelude.{ℕ, Bool, true, false, if◌then◌else◌, List, [], ◌∷◌, Option, Some, None, is_some, codes}
 use Rattle.cg_base.specs.declared.Form.{Form}
 use Rattle.cg_base.specs.Parts.{◌>>=◌, symbol_of, string_of, natural_of, elements_of, only}
-
--- Two texts have the same bytes.
-abbrev pub same : List ℕ → List ℕ → Bool
-same = pointwise nat_eq
+use Rattle.cg_base.specs.Texts.{is_named}
 
 -- The elements of a list of just two.
 abbrev pub two : {A : Type 0} → List A → Option (A × A)
@@ -23,10 +19,6 @@ abbrev pub four : {A : Type 0} → List A → Option (A × A × A × A)
 four (a ∷ b ∷ c ∷ d ∷ []) = Some (a, b, c, d)
 four _ = None
 
-abbrev pub is_named : List ℕ → Option (List ℕ) → Bool
-is_named name None = false
-is_named name (Some symbol) = same symbol name
-
 -- The form is the symbol NAME.
 abbrev pub is_symbol : List ℕ → Form → Bool
 is_symbol name form = is_named name (symbol_of form)
@@ -36,24 +28,24 @@ behind name [] = None
 behind name (head ∷ forms) = if is_symbol name head then Some forms else None
 
 -- What stands behind NAME in a list `(NAME ..)`.
-unfoldable pub headed : List ℕ → Form → Option (List Form)
-headed name form = elements_of form >>= behind name
+unfoldable pub behind_name : List ℕ → Form → Option (List Form)
+behind_name name form = elements_of form >>= behind name
 
 -- The form X of a list `(NAME X)`.
-unfoldable pub clause : List ℕ → Form → Option Form
-clause name form = headed name form >>= only
+unfoldable pub one_behind : List ℕ → Form → Option Form
+one_behind name form = behind_name name form >>= only
 
 -- The symbol X of a list `(NAME X)`.
 unfoldable pub symbol_clause : List ℕ → Form → Option (List ℕ)
-symbol_clause name form = clause name form >>= symbol_of
+symbol_clause name form = one_behind name form >>= symbol_of
 
 -- The number X, from 0, of a list `(NAME X)`.
 unfoldable pub number_clause : List ℕ → Form → Option ℕ
-number_clause name form = clause name form >>= natural_of
+number_clause name form = one_behind name form >>= natural_of
 
 -- The string in `(comment "..")`.
 unfoldable pub comment_of : Form → Option (List ℕ)
-comment_of form = clause (codes "comment") form >>= string_of
+comment_of form = one_behind (codes "comment") form >>= string_of
 
 abbrev pub is_comment : Form → Bool
 is_comment form = is_some (comment_of form)
@@ -64,7 +56,7 @@ is_nothing _ = false
 
 -- The form is `(NAME)`, with nothing behind the name.
 abbrev pub is_empty_clause : List ℕ → Form → Bool
-is_empty_clause name form = is_nothing (headed name form)
+is_empty_clause name form = is_nothing (behind_name name form)
 
 -- The forms without the first, where that is such.
 abbrev pub past : (Form → Bool) → List Form → List Form

@@ -10,13 +10,14 @@ use Rattle.cg_top.specs.declared.machine.Part.{Part}
 use Rattle.cg_top.specs.declared.machine.Insn.{Insn}
 use Rattle.cg_top.specs.declared.machine.Machine.{Machine}
 use Rattle.cg_base.specs.Parts.{◌>>=◌, Layer, symbol_of, natural_of, string_of, only}
-use Rattle.cg_top.specs.Shape.{same, two, three, four, named, is_nothing, is_empty_clause, is_symbol, headed, clause, symbol_clause, number_clause}
+use Rattle.cg_base.specs.Texts.{same_text}
+use Rattle.cg_top.specs.Shape.{two, three, four, named, is_nothing, is_empty_clause, is_symbol, behind_name, one_behind, symbol_clause, number_clause}
 use Rattle.cg_top.specs.Names.{distinct}
 
 -- `(define-arch (name N) (machs M) (isas I))`: M and I.
 unfoldable pub arch_of : Form → Option (List ℕ × List ℕ)
 arch_of form = do
-  clauses ← headed (codes "define-arch") form
+  clauses ← behind_name (codes "define-arch") form
   n ← named clauses
   x ← two n.1
   mach ← symbol_clause (codes "machs") x.0
@@ -26,7 +27,7 @@ arch_of form = do
 -- `(define-isa (name I) (base-insn-bitsize 16))`: I.
 unfoldable pub isa_of : Form → Option (List ℕ)
 isa_of form = do
-  clauses ← headed (codes "define-isa") form
+  clauses ← behind_name (codes "define-isa") form
   n ← named clauses
   x ← only n.1
   size ← number_clause (codes "base-insn-bitsize") x
@@ -35,17 +36,17 @@ isa_of form = do
 -- `(define-cpu (name C) (endian big) (word-bitsize 32))`: C.
 unfoldable pub cpu_of : Form → Option (List ℕ)
 cpu_of form = do
-  clauses ← headed (codes "define-cpu") form
+  clauses ← behind_name (codes "define-cpu") form
   n ← named clauses
   x ← two n.1
-  endian ← clause (codes "endian") x.0
+  endian ← one_behind (codes "endian") x.0
   size ← number_clause (codes "word-bitsize") x.1
   if is_symbol (codes "big") endian && nat_eq size 32 then Some n.0 else None
 
 -- `(define-mach (name M) (cpu C))`: M and C.
 unfoldable pub mach_of : Form → Option (List ℕ × List ℕ)
 mach_of form = do
-  clauses ← headed (codes "define-mach") form
+  clauses ← behind_name (codes "define-mach") form
   n ← named clauses
   x ← only n.1
   cpu ← symbol_clause (codes "cpu") x
@@ -64,7 +65,7 @@ frame_of tops = do
   isa ← isa_of x.1.form
   cpu ← cpu_of x.2.form
   mach ← mach_of x.3.form
-  if same isa arch.1 && same mach.0 arch.0 && same mach.1 cpu then Some (mach.0, x.4) else None
+  if same_text isa arch.1 && same_text mach.0 arch.0 && same_text mach.1 cpu then Some (mach.0, x.4) else None
 
 -- A field of so many bits stands in the word.
 abbrev pub fits_word : ℕ → ℕ → Bool
@@ -73,7 +74,7 @@ fits_word start len = nat_le 1 len && nat_le (start + len) 16
 -- `(define-ifield (name F) (start S) (length L))`: F, S and L.
 unfoldable pub field_shape : Form → Option (List ℕ × ℕ × ℕ)
 field_shape form = do
-  clauses ← headed (codes "define-ifield") form
+  clauses ← behind_name (codes "define-ifield") form
   n ← named clauses
   x ← two n.1
   start ← number_clause (codes "start") x.0
@@ -86,7 +87,7 @@ field_of form = do
   if fits_word x.1 x.2 then Some (record { name = x.0; start = x.1; len = x.2 }) else None
 
 abbrev pub is_field : Top → Bool
-is_field top = is_some (headed (codes "define-ifield") top.form)
+is_field top = is_some (behind_name (codes "define-ifield") top.form)
 
 -- What f gives of each element, where it gives something of all.
 abbrev pub each : {A B : Type 0} → (A → Option B) → List A → Option (List B)
@@ -125,7 +126,7 @@ fits_field (Some constant) len = nat_lt constant (2 ^ len)
 unfoldable pub part_of : List Field → Form → Option Part
 part_of fields form = do
   x ← part_shape (out-Form form)
-  field ← find (λ field. same field.name x.0) fields
+  field ← find (λ field. same_text field.name x.0) fields
   if fits_field x.1 field.len then Some (record { field = field; constant = x.1 }) else None
 
 -- No bit belongs to both.
@@ -142,7 +143,7 @@ is_bare part = is_none part.constant
 
 -- `(format (+ P ..))`: each P.
 unfoldable pub format_shape : Form → Option (List Form)
-format_shape form = clause (codes "format") form >>= headed (codes "+")
+format_shape form = one_behind (codes "format") form >>= behind_name (codes "+")
 
 -- No two parts cover one bit, and at most 16 are bare.
 unfoldable pub format_of : List Field → Form → Option (List Part)
@@ -152,7 +153,7 @@ format_of fields form = do
   if are_apart parts && nat_le (count_by is_bare parts) 16 then Some parts else None
 
 unfoldable pub nop_shape : Form → Option (List Form)
-nop_shape form = clause (codes "semantics") form >>= headed (codes "nop")
+nop_shape form = one_behind (codes "semantics") form >>= behind_name (codes "nop")
 
 abbrev pub untimed : Form × Form × Form × Form → Option (Form × Form × Form)
 untimed (a, b, c, d) = if is_empty_clause (codes "timing") d then Some (a, b, c) else None
@@ -164,10 +165,10 @@ three_or_timed clauses = elim (four clauses) [ None ↦ three clauses | Some x �
 -- `(define-insn (name X) (syntax "..") FORMAT (semantics (nop)))`: X and FORMAT. Any string is a syntax.
 unfoldable pub insn_shape : Form → Option (List ℕ × Form)
 insn_shape form = do
-  clauses ← headed (codes "define-insn") form
+  clauses ← behind_name (codes "define-insn") form
   n ← named clauses
   x ← three_or_timed n.1
-  syntax ← clause (codes "syntax") x.0
+  syntax ← one_behind (codes "syntax") x.0
   bytes ← string_of syntax
   if is_nothing (nop_shape x.2) then Some (n.0, x.1) else None
 
@@ -186,11 +187,16 @@ insns_of fields tops = do
   insns ← each (λ top. insn_of fields top.form) tops
   if nat_le (length insns) 4096 && distinct (map insn_name insns) then Some insns else None
 
+-- What stands behind the frame: fields, then instructions.
+unfoldable pub insns_behind : List Top → Option (List Insn)
+insns_behind tops = do
+  fields ← fields_of (take (prefix_len is_field tops) tops)
+  insns_of fields (drop (prefix_len is_field tops) tops)
+
 -- The machine that the forms describe, and nothing where they are not of the thin shape: the four forms in front, then
 -- fields, then instructions.
 unfoldable pub thin : List Top → Option Machine
 thin tops = do
   x ← frame_of tops
-  fields ← fields_of (take (prefix_len is_field x.1) x.1)
-  insns ← insns_of fields (drop (prefix_len is_field x.1) x.1)
+  insns ← insns_behind x.1
   Some (record { name = x.0; insns = insns })

@@ -1,6 +1,8 @@
-ghost use Rattle.std.specs.Prelude.{◌≡◌, ◌≤◌, IfOk};
+ghost use Rattle.std.specs.Prelude.{◌≡◌, ◌≤◌, Some, IfOk};
 ghost use Rattle.cg_io.specs.Causes.{Rose};
-ghost use Rattle.cg_top.specs.Fetching.{IsFetched};
+ghost use Rattle.cg_io.specs.Held.{Held};
+ghost use Rattle.cg_top.specs.Fetching.{IsFetched, files_asked, HasAsked, HasAskedFront};
+ghost use Rattle.cg_top.specs.declared.gathering.Fetched.{Fetched as Given};
 
 use crate::gathering::{Fetched, Sources, open};
 use crate::pending::Pending;
@@ -12,6 +14,8 @@ use std::alloc::Global;
 /// (docs/LANGUAGE.md, "Includes").
 pub fn fetch<F: Files>(alloc: Global, desc: &Text, files: &mut F) -> Result<Fetched, NoMemory>
     ensures fetched { IfOk result (λ fetched. IsFetched desc.now (F.held files.old) (Rose (F.faults files.old) (F.faults files.new)) fetched) }
+    ensures asked { IfOk result (λ fetched. HasAsked (F.asked files.old) (files_asked fetched) (F.asked files.new)) }
+    ensures front { (held : Held) (fetched : Given) → F.held files.old ≡ Some held → IsFetched desc.now (Some held) ⊥ fetched → HasAskedFront (F.asked files.old) fetched (F.asked files.new) }
     ensures held { F.held files.new ≡ F.held files.old }
     ensures later { F.faults files.old ≤ F.faults files.new }
 {

@@ -1,10 +1,12 @@
-ghost use Rattle.std.specs.Prelude.{◌≡◌, ◌⊎◌, ◌≤◌, ◌++◌, map, IfOk, IfSome, IfNone, true};
+ghost use Rattle.std.specs.Prelude.{◌≡◌, ◌⊎◌, ◌≤◌, ◌++◌, ◌∷◌, [], map, Some, IfOk, IfSome, IfNone, true};
 ghost use Rattle.cg_io.specs.Causes.{Rose};
+ghost use Rattle.cg_io.specs.Held.{Held, appended};
+ghost use Rattle.cg_top.specs.Fetching.{asking, AsksOn, AsksFront};
 ghost use Rattle.cg_top.specs.Gathering.{no_sources, may_include, too_many, placed, IsLacking, HasText, IsShortFormsAt, Opens, Gathers, ComesBehind};
 
 use crate::including::{Include, is_short, pass};
 use crate::pending::Pending;
-use cg_base::{Forms, List, NoMemory, Refusal, Stop, Text, Top};
+use cg_base::{Fault, Forms, List, NoMemory, Refusal, Stop, Text, Top, refusal_at};
 use cg_io::{FileFault, Files};
 use cg_pmacro::SHORT_FORMS;
 use cg_sexp::read;
@@ -23,8 +25,8 @@ pub enum Fetched {
     Read(Forms, List<Text>),
     /// The first fault of its texts, and the names of the files so far.
     Refused(Refusal, List<Text>),
-    /// The name of a file that can't be read.
-    Unread(Text),
+    /// The name of a file that can't be read, and the names of the files before it.
+    Unread(Text, List<Text>),
 }
 
 /// What was read of a description so far.
@@ -52,6 +54,7 @@ impl Sources {
 fn text_of<F: Files>(alloc: Global, name: &Text, files: &mut F) -> Result<Option<Vec<u8>>, NoMemory>
     ensures text { IfOk result (λ text. IfSome text (λ bytes. HasText (F.held files.old) name.now bytes.items)) }
     ensures lacking { IfOk result (λ text. IfNone text (IsLacking (F.held files.old) name.now ⊎ Rose (F.faults files.old) (F.faults files.new))) }
+    ensures asked { F.asked files.new ≡ appended (F.asked files.old) (asking name.now ∷ []) }
     ensures held { F.held files.new ≡ F.held files.old }
     ensures later { F.faults files.old ≤ F.faults files.new }
 {
@@ -76,11 +79,13 @@ pub fn open<F: Files>(
 ) -> Result<Fetched, NoMemory>
     requires { may_include sources ≡ true }
     ensures fetched { IfOk result (λ fetched. ComesBehind passed (Opens (F.held files.old) (Rose (F.faults files.old) (F.faults files.new)) sources name.now pending) fetched) }
+    ensures asked { IfOk result (AsksOn sources.names (F.asked files.old) (F.asked files.new)) }
+    ensures front { (held : Held) → F.held files.old ≡ Some held → AsksFront sources.names (F.asked files.old) (F.asked files.new) (Opens (Some held) ⊥ sources name.now pending) }
     ensures held { F.held files.new ≡ F.held files.old }
     ensures later { F.faults files.old ≤ F.faults files.new }
 {
     let Some(bytes) = text_of(alloc, name, files)? else {
-        return Ok(Fetched::Unread(name.clone()?));
+        return Ok(Fetched::Unread(name.clone()?, sources.names));
     };
     let number = sources.names.len() as u16;
     sources.names.push(name.clone()?)?;
@@ -104,6 +109,8 @@ fn gather<F: Files>(
     files: &mut F,
 ) -> Result<Fetched, NoMemory>
     ensures fetched { IfOk result (λ fetched. ComesBehind passed (Gathers (F.held files.old) (Rose (F.faults files.old) (F.faults files.new)) sources pending) fetched) }
+    ensures asked { IfOk result (AsksOn sources.names (F.asked files.old) (F.asked files.new)) }
+    ensures front { (held : Held) → F.held files.old ≡ Some held → AsksFront sources.names (F.asked files.old) (F.asked files.new) (Gathers (Some held) ⊥ sources pending) }
     ensures held { F.held files.new ≡ F.held files.old }
     ensures later { F.faults files.old ≤ F.faults files.new }
 {
@@ -118,22 +125,19 @@ fn gather<F: Files>(
     if sources.names.len() <= INCLUDES {
         Ok(open(alloc, &include.name, sources, passed, pending, files)?)
     } else {
-        Ok(Fetched::Refused(too_many(alloc, include), sources.names))
+        Ok(Fetched::Refused(too_many(alloc, &include)?, sources.names))
     }
 }
 
 /// `E106`: the include is the 65th.
-fn too_many(alloc: Global, include: Include) -> Refusal
-    ensures { result ≡ too_many include }
+fn too_many(alloc: Global, include: &Include) -> Result<Refusal, NoMemory>
+    ensures { IfOk result (λ refusal. refusal ≡ too_many include.now) }
 {
-    let Include { name, file, line } = include;
-    Refusal {
+    let fault = Fault {
         number: 106,
-        file,
-        line,
-        text: name,
-        other: Text::new(alloc),
-    }
+        text: include.name.as_slice(),
+    };
+    refusal_at(alloc, include.file, include.line, fault)
 }
 
 /// The short forms, with the file and line of their include.

@@ -3,7 +3,7 @@ ghost use Rattle.std.specs.Option.{option_copied};
 ghost use Rattle.cg_top.specs.Including.{included, is_short, parted};
 
 use crate::pending::Pending;
-use crate::shape::clause;
+use crate::shape::one_behind;
 use cg_base::{Form, List, NoMemory, Text, Top};
 
 /// An include among the forms of a description (docs/LANGUAGE.md, "Includes").
@@ -22,7 +22,7 @@ pub struct Include {
 fn included(form: &Form) -> Option<&Text>
     ensures { option_copied result ≡ included form.now }
 {
-    clause(form, b"include")?.string()
+    one_behind(form, b"include")?.string()
 }
 
 /// Whether the name asks for the short forms, and for no file.

@@ -17,8 +17,5 @@ mod shape;
 mod thin;
 mod top;
 
-pub use laws::one_answer;
+pub use laws::{one_answer, some_answer};
 pub use top::cgen;
-
-#[cfg(test)]
-mod tests;

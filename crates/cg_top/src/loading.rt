@@ -1,10 +1,11 @@
 ghost use Rattle.std.specs.Prelude.{◌≡◌, IfOk};
-ghost use Rattle.cg_top.specs.Loading.{not_thin, no_machine, Loads, called, loaded};
+ghost use Rattle.cg_base.specs.Answering.{Gives};
+ghost use Rattle.cg_top.specs.Loading.{not_thin, no_machine, called, loaded};
 
 use crate::machine::Machine;
 use crate::misfit::Misfit;
 use crate::thin::thin_machine;
-use cg_base::{Forms, NoMemory, Refusal, Stop, Text};
+use cg_base::{Fault, Forms, NoMemory, Refusal, Stop, Text, refusal_at};
 use cg_pmacro::expand;
 use std::alloc::Global;
 
@@ -12,31 +13,27 @@ use std::alloc::Global;
 fn not_thin(alloc: Global) -> Result<Refusal, NoMemory>
     ensures { IfOk result (λ refusal. refusal ≡ not_thin) }
 {
-    Ok(Refusal {
+    let fault = Fault {
         number: 301,
-        file: 0,
-        line: 0,
-        text: Text::of(alloc, b"form".as_slice())?,
-        other: Text::new(alloc),
-    })
+        text: b"form",
+    };
+    refusal_at(alloc, 0, 0, fault)
 }
 
 /// `E318`: there is no machine of this name.
 fn no_machine(alloc: Global, name: &Text) -> Result<Refusal, NoMemory>
     ensures { IfOk result (λ refusal. refusal ≡ no_machine name.now) }
 {
-    Ok(Refusal {
+    let fault = Fault {
         number: 318,
-        file: 0,
-        line: 0,
-        text: name.clone()?,
-        other: Text::new(alloc),
-    })
+        text: name.as_slice(),
+    };
+    refusal_at(alloc, 0, 0, fault)
 }
 
 /// The machine, where it is called so.
 fn called(alloc: Global, machine: Machine, name: &Text) -> Result<Machine, Stop>
-    ensures { Loads result (called machine name.now) }
+    ensures { Gives (called machine name.now) result }
 {
     if machine.name.as_slice() == name.as_slice() {
         Ok(machine)
@@ -49,7 +46,7 @@ fn called(alloc: Global, machine: Machine, name: &Text) -> Result<Machine, Stop>
 /// (docs/REFUSALS.md: the faults of expansion, E301 where the expanded forms aren't of the thin
 /// shape, E318 where they are and describe another machine).
 pub fn load(alloc: Global, forms: &Forms, name: &Text) -> Result<Machine, Stop>
-    ensures { Loads result (loaded forms.now name.now) }
+    ensures { Gives (loaded forms.now name.now) result }
 {
     let expanded = expand(alloc, forms)?;
     match thin_machine(alloc, expanded.tops.as_slice()) {

@@ -1,7 +1,7 @@
 ghost use Rattle.std.specs.Prelude.{◌≡◌, ℕ, List as Listed, map, find};
 ghost use Rattle.std.specs.Option.{option_copied};
 ghost use Rattle.std.specs.List.{list_any};
-ghost use Rattle.cg_top.specs.Shape.{same};
+ghost use Rattle.cg_base.specs.Texts.{same_text};
 ghost use Rattle.cg_top.specs.Names.{distinct};
 
 use crate::machine::{Field, Insn};
@@ -34,7 +34,7 @@ impl Named for Insn {
 
 /// Whether one is called so.
 fn is_taken<T: Named>(items: &[T], name: &Text) -> bool
-    ensures { result ≡ list_any (same name.now) (map T.named items.now) }
+    ensures { result ≡ list_any (same_text name.now) (map T.named items.now) }
 {
     for item in items {
         if name.as_slice() == item.name().as_slice() {
@@ -60,7 +60,7 @@ pub fn are_distinct<T: Named>(items: &[T]) -> bool
 
 /// The field that is called so.
 pub fn find_field<'a>(fields: &'a [Field], name: &Text) -> Option<&'a Field>
-    ensures { option_copied result ≡ find (λ field. same field.name name.now) fields.now }
+    ensures { option_copied result ≡ find (λ field. same_text field.name name.now) fields.now }
 {
     fields
         .iter()

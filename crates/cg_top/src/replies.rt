@@ -1,7 +1,10 @@
-ghost use Rattle.std.specs.Prelude.{◌≡◌, ◌≤◌, IfOk, OnOk, ◌++◌, ◌∷◌, []};
+ghost use Rattle.std.specs.Prelude.{◌≡◌, ◌≤◌, IfOk, OnOk, ◌++◌, ◌∷◌, [], Some, List as Listed};
 ghost use Rattle.cg_io.specs.Causes.{Rose};
+ghost use Rattle.cg_io.specs.Asking.{Asking};
+ghost use Rattle.cg_io.specs.Held.{Held, appended, AppendsFront};
 ghost use Rattle.cg_top.specs.Replies.{reply, decimal_of, behind_blank, refusal_line, name_of, refused, cannot_read, bad_words, performed, described, reply_to};
-ghost use Rattle.cg_top.specs.Answer.{Answer, Answers};
+ghost use Rattle.cg_top.specs.declared.replies.Reply.{Reply as Replied};
+ghost use Rattle.cg_top.specs.Answer.{Answer, IsReply, IsReplyTo};
 
 use crate::asking::{Asked, Command, ask_of};
 use crate::fetching::fetch;
@@ -143,13 +146,14 @@ fn reply_to(alloc: Global, asked: &Asked, fetched: &Fetched) -> Result<Reply, No
     match fetched {
         Fetched::Read(forms, names) => describe(alloc, asked, forms, names),
         Fetched::Refused(refusal, names) => refused(alloc, &asked.desc, names, refusal),
-        Fetched::Unread(name) => cannot_read(alloc, name),
+        Fetched::Unread(name, _) => cannot_read(alloc, name),
     }
 }
 
 /// What the words are answered.
 pub fn answer<F: Files>(alloc: Global, words: &[Text], files: &mut F) -> Result<Reply, NoMemory>
-    ensures answer { IfOk result (λ reply. Answer words.now (F.held files.old) (Rose (F.faults files.old) (F.faults files.new)) reply) }
+    ensures answer { IfOk result (IsReplyTo words.now (F.held files.old) (Rose (F.faults files.old) (F.faults files.new)) (F.asked files.old) (F.asked files.new)) }
+    ensures front { (held : Held) (reads : Listed Asking) (reply : Replied) → F.held files.old ≡ Some held → Answer words.now (Some held) ⊥ reads reply → AppendsFront (F.asked files.old) (F.asked files.new) reads }
     ensures held { F.held files.new ≡ F.held files.old }
     ensures later { F.faults files.old ≤ F.faults files.new }
 {
@@ -160,7 +164,8 @@ pub fn answer<F: Files>(alloc: Global, words: &[Text], files: &mut F) -> Result<
 }
 
 fn answer_asked<F: Files>(alloc: Global, asked: &Asked, files: &mut F) -> Result<Reply, NoMemory>
-    ensures answer { IfOk result (λ reply. Answers asked.now (F.held files.old) (Rose (F.faults files.old) (F.faults files.new)) reply) }
+    ensures answer { IfOk result (λ reply. (reads : Listed Asking) × IsReply asked.now (F.held files.old) (Rose (F.faults files.old) (F.faults files.new)) reads reply × (F.asked files.new ≡ appended (F.asked files.old) reads)) }
+    ensures front { (held : Held) (reads : Listed Asking) (reply : Replied) → F.held files.old ≡ Some held → IsReply asked.now (Some held) ⊥ reads reply → AppendsFront (F.asked files.old) (F.asked files.new) reads }
     ensures held { F.held files.new ≡ F.held files.old }
     ensures later { F.faults files.old ≤ F.faults files.new }
 {

@@ -1,6 +1,6 @@
 ghost use Rattle.std.specs.Prelude.{◌≡◌, codes};
 ghost use Rattle.std.specs.Option.{option_copied, option_map};
-ghost use Rattle.cg_top.specs.Shape.{two, three, four, is_symbol, headed, clause, symbol_clause, number_clause, comment_of, is_comment, is_empty_clause, past, named};
+ghost use Rattle.cg_top.specs.Shape.{two, three, four, is_symbol, behind_name, one_behind, symbol_clause, number_clause, comment_of, is_comment, is_empty_clause, past, named};
 
 use cg_base::{Form, Text, only};
 
@@ -45,9 +45,9 @@ pub fn is_symbol(form: &Form, name: &[u8]) -> bool
 }
 
 /// What stands behind the head of a list that is headed by this symbol.
-#[tactic(auto, unfolding(crate::specs::Shape::headed))]
-pub fn headed<'a>(form: &'a Form, name: &[u8]) -> Option<&'a [Form]>
-    ensures { option_copied result ≡ headed name.now form.now }
+#[tactic(auto, unfolding(crate::specs::Shape::behind_name))]
+pub fn behind_name<'a>(form: &'a Form, name: &[u8]) -> Option<&'a [Form]>
+    ensures { option_copied result ≡ behind_name name.now form.now }
 {
     let (head, rest) = form.elements()?.split_first()?;
     if is_symbol(head, name) {
@@ -58,11 +58,11 @@ pub fn headed<'a>(form: &'a Form, name: &[u8]) -> Option<&'a [Form]>
 }
 
 /// The element behind the head of a list `(NAME X)`.
-#[tactic(auto, unfolding(crate::specs::Shape::clause))]
-pub fn clause<'a>(form: &'a Form, name: &[u8]) -> Option<&'a Form>
-    ensures { option_copied result ≡ clause name.now form.now }
+#[tactic(auto, unfolding(crate::specs::Shape::one_behind))]
+pub fn one_behind<'a>(form: &'a Form, name: &[u8]) -> Option<&'a Form>
+    ensures { option_copied result ≡ one_behind name.now form.now }
 {
-    only(headed(form, name)?)
+    only(behind_name(form, name)?)
 }
 
 /// The symbol of a list `(NAME SYMBOL)`.
@@ -70,7 +70,7 @@ pub fn clause<'a>(form: &'a Form, name: &[u8]) -> Option<&'a Form>
 pub fn symbol_clause<'a>(form: &'a Form, name: &[u8]) -> Option<&'a Text>
     ensures { option_copied result ≡ symbol_clause name.now form.now }
 {
-    clause(form, name)?.symbol()
+    one_behind(form, name)?.symbol()
 }
 
 /// The number of a list `(NAME NUMBER)`.
@@ -78,7 +78,7 @@ pub fn symbol_clause<'a>(form: &'a Form, name: &[u8]) -> Option<&'a Text>
 pub fn number_clause(form: &Form, name: &[u8]) -> Option<u64>
     ensures { result ≡ number_clause name.now form.now }
 {
-    clause(form, name)?.natural()
+    one_behind(form, name)?.natural()
 }
 
 /// The string of a list `(comment "..")`.
@@ -86,7 +86,7 @@ pub fn number_clause(form: &Form, name: &[u8]) -> Option<u64>
 fn comment_of(form: &Form) -> Option<&Text>
     ensures { option_copied result ≡ comment_of form.now }
 {
-    clause(form, b"comment".as_slice())?.string()
+    one_behind(form, b"comment".as_slice())?.string()
 }
 
 fn is_comment(form: &Form) -> bool
@@ -99,7 +99,7 @@ fn is_comment(form: &Form) -> bool
 pub fn is_empty_clause(form: &Form, name: &[u8]) -> bool
     ensures { result ≡ is_empty_clause name.now form.now }
 {
-    match headed(form, name) {
+    match behind_name(form, name) {
         Some(forms) => forms.is_empty(),
         None => false,
     }

@@ -2,16 +2,16 @@ ghost use Rattle.std.specs.Prelude.{◌≡◌, ◌≤◌, ◌^◌, count_by, len
 ghost use Rattle.std.specs.Option.{option_copied, option_map};
 ghost use Rattle.std.specs.List.{list_all, prefix_len};
 ghost use Rattle.cg_base.specs.declared.Form.{out-Form};
-ghost use Rattle.cg_top.specs.Thin.{arch_of, isa_of, cpu_of, mach_of, frame_of, fits_word, field_shape, field_of, is_field, each, fields_of, part_shape, constant_shape, fits_field, part_of, is_apart, are_apart, is_bare, format_shape, format_of, nop_shape, three_or_timed, insn_shape, insn_of, insns_of, thin};
+ghost use Rattle.cg_top.specs.Thin.{arch_of, isa_of, cpu_of, mach_of, frame_of, fits_word, field_shape, field_of, is_field, each, fields_of, part_shape, constant_shape, fits_field, part_of, is_apart, are_apart, is_bare, format_shape, format_of, nop_shape, three_or_timed, insn_shape, insn_of, insns_of, insns_behind, thin};
 ghost use Rattle.cg_top.specs.Shape.{is_nothing};
-ghost use Rattle.cg_top.specs.Gives.{Gives};
+ghost use Rattle.cg_top.specs.Fitting.{Fits};
 
 use crate::machine::{Field, Insn, Machine, Part};
 use crate::misfit::Misfit;
 use crate::names::{are_distinct, find_field};
 use crate::shape::{
-    clause, four, headed, is_empty_clause, is_symbol, named, number_clause, symbol_clause, three,
-    two,
+    behind_name, four, is_empty_clause, is_symbol, named, number_clause, one_behind, symbol_clause,
+    three, two,
 };
 use cg_base::{Form, List, Text, Top, only};
 use std::alloc::Global;
@@ -27,7 +27,7 @@ const MOST_BARE: usize = 16;
 fn arch_of(form: &Form) -> Option<(&Text, &Text)>
     ensures { option_map (λ x. (x.0.now, x.1.now)) result ≡ arch_of form.now }
 {
-    let (_, clauses) = named(headed(form, b"define-arch".as_slice())?)?;
+    let (_, clauses) = named(behind_name(form, b"define-arch".as_slice())?)?;
     let (machs, isas) = two(clauses)?;
     let mach = symbol_clause(machs, b"machs".as_slice())?;
     let isa = symbol_clause(isas, b"isas".as_slice())?;
@@ -39,7 +39,7 @@ fn arch_of(form: &Form) -> Option<(&Text, &Text)>
 fn isa_of(form: &Form) -> Option<&Text>
     ensures { option_copied result ≡ isa_of form.now }
 {
-    let (name, clauses) = named(headed(form, b"define-isa".as_slice())?)?;
+    let (name, clauses) = named(behind_name(form, b"define-isa".as_slice())?)?;
     let size = number_clause(only(clauses)?, b"base-insn-bitsize".as_slice())?;
     if size == 16 { Some(name) } else { None }
 }
@@ -49,9 +49,9 @@ fn isa_of(form: &Form) -> Option<&Text>
 fn cpu_of(form: &Form) -> Option<&Text>
     ensures { option_copied result ≡ cpu_of form.now }
 {
-    let (name, clauses) = named(headed(form, b"define-cpu".as_slice())?)?;
+    let (name, clauses) = named(behind_name(form, b"define-cpu".as_slice())?)?;
     let (endian, size) = two(clauses)?;
-    let endian = clause(endian, b"endian".as_slice())?;
+    let endian = one_behind(endian, b"endian".as_slice())?;
     let size = number_clause(size, b"word-bitsize".as_slice())?;
     if is_symbol(endian, b"big".as_slice()) && size == 32 {
         Some(name)
@@ -65,7 +65,7 @@ fn cpu_of(form: &Form) -> Option<&Text>
 fn mach_of(form: &Form) -> Option<(&Text, &Text)>
     ensures { option_map (λ x. (x.0.now, x.1.now)) result ≡ mach_of form.now }
 {
-    let (name, clauses) = named(headed(form, b"define-mach".as_slice())?)?;
+    let (name, clauses) = named(behind_name(form, b"define-mach".as_slice())?)?;
     let cpu = symbol_clause(only(clauses)?, b"cpu".as_slice())?;
     Some((name, cpu))
 }
@@ -105,7 +105,7 @@ fn fits_word(start: u64, len: u64) -> bool
 fn field_shape(form: &Form) -> Option<(&Text, u64, u64)>
     ensures { option_map (λ x. (x.0.now, x.1, x.2)) result ≡ field_shape form.now }
 {
-    let (name, clauses) = named(headed(form, b"define-ifield".as_slice())?)?;
+    let (name, clauses) = named(behind_name(form, b"define-ifield".as_slice())?)?;
     let (start, len) = two(clauses)?;
     let start = number_clause(start, b"start".as_slice())?;
     let len = number_clause(len, b"length".as_slice())?;
@@ -114,7 +114,7 @@ fn field_shape(form: &Form) -> Option<(&Text, u64, u64)>
 
 #[tactic(auto, unfolding(crate::specs::Thin::field_of))]
 fn field_of(form: &Form) -> Result<Field, Misfit>
-    ensures { Gives result (field_of form.now) }
+    ensures { Fits result (field_of form.now) }
 {
     let Some((name, start, len)) = field_shape(form) else {
         return Err(Misfit::Shape);
@@ -132,7 +132,7 @@ fn field_of(form: &Form) -> Result<Field, Misfit>
 fn is_field(top: &Top) -> bool
     ensures { result ≡ is_field top.now }
 {
-    headed(&top.form, b"define-ifield".as_slice()).is_some()
+    behind_name(&top.form, b"define-ifield".as_slice()).is_some()
 }
 
 /// How many of the forms in front are headed `define-ifield`.
@@ -153,7 +153,7 @@ fn count_fields(tops: &[Top]) -> usize
 /// The fields, at most 1,024, no two of one name.
 #[tactic(auto, unfolding(crate::specs::Thin::fields_of))]
 fn fields_of(alloc: Global, tops: &[Top]) -> Result<List<Field>, Misfit>
-    ensures { Gives result (fields_of tops.now) }
+    ensures { Fits result (fields_of tops.now) }
 {
     let fields = each_field(alloc, tops)?;
     if fields.len() <= MOST_FIELDS && are_distinct(fields.as_slice()) {
@@ -164,7 +164,7 @@ fn fields_of(alloc: Global, tops: &[Top]) -> Result<List<Field>, Misfit>
 }
 
 fn each_field(alloc: Global, tops: &[Top]) -> Result<List<Field>, Misfit>
-    ensures { Gives result (each (λ top. field_of top.form) tops.now) }
+    ensures { Fits result (each (λ top. field_of top.form) tops.now) }
 {
     let mut fields = List::new(alloc);
     for top in tops {
@@ -214,7 +214,7 @@ fn is_below_power(number: u64, len: u8) -> bool
 
 #[tactic(auto, unfolding(crate::specs::Thin::part_of))]
 fn part_of(fields: &[Field], form: &Form) -> Result<Part, Misfit>
-    ensures { Gives result (part_of fields.now form.now) }
+    ensures { Fits result (part_of fields.now form.now) }
 {
     let Some((name, constant)) = part_shape(form) else {
         return Err(Misfit::Shape);
@@ -276,12 +276,12 @@ fn count_bare(parts: &[Part]) -> usize
 fn format_shape(form: &Form) -> Option<&[Form]>
     ensures { option_copied result ≡ format_shape form.now }
 {
-    headed(clause(form, b"format".as_slice())?, b"+".as_slice())
+    behind_name(one_behind(form, b"format".as_slice())?, b"+".as_slice())
 }
 
 #[tactic(auto, unfolding(crate::specs::Thin::format_of))]
 fn format_of(alloc: Global, fields: &[Field], form: &Form) -> Result<List<Part>, Misfit>
-    ensures { Gives result (format_of fields.now form.now) }
+    ensures { Fits result (format_of fields.now form.now) }
 {
     let Some(forms) = format_shape(form) else {
         return Err(Misfit::Shape);
@@ -295,7 +295,7 @@ fn format_of(alloc: Global, fields: &[Field], form: &Form) -> Result<List<Part>,
 }
 
 fn each_part(alloc: Global, fields: &[Field], forms: &[Form]) -> Result<List<Part>, Misfit>
-    ensures { Gives result (each (part_of fields.now) forms.now) }
+    ensures { Fits result (each (part_of fields.now) forms.now) }
 {
     let mut parts = List::new(alloc);
     for form in forms {
@@ -309,7 +309,10 @@ fn each_part(alloc: Global, fields: &[Field], forms: &[Form]) -> Result<List<Par
 fn nop_shape(form: &Form) -> Option<&[Form]>
     ensures { option_copied result ≡ nop_shape form.now }
 {
-    headed(clause(form, b"semantics".as_slice())?, b"nop".as_slice())
+    behind_name(
+        one_behind(form, b"semantics".as_slice())?,
+        b"nop".as_slice(),
+    )
 }
 
 fn is_nop(form: &Form) -> bool
@@ -342,9 +345,9 @@ fn three_or_timed(clauses: &[Form]) -> Option<(&Form, &Form, &Form)>
 fn insn_shape(form: &Form) -> Option<(&Text, &Form)>
     ensures { option_map (λ x. (x.0.now, x.1.now)) result ≡ insn_shape form.now }
 {
-    let (name, clauses) = named(headed(form, b"define-insn".as_slice())?)?;
+    let (name, clauses) = named(behind_name(form, b"define-insn".as_slice())?)?;
     let (syntax, format, semantics) = three_or_timed(clauses)?;
-    let _ = clause(syntax, b"syntax".as_slice())?.string()?;
+    let _ = one_behind(syntax, b"syntax".as_slice())?.string()?;
     if is_nop(semantics) {
         Some((name, format))
     } else {
@@ -354,7 +357,7 @@ fn insn_shape(form: &Form) -> Option<(&Text, &Form)>
 
 #[tactic(auto, unfolding(crate::specs::Thin::insn_of))]
 fn insn_of(alloc: Global, fields: &[Field], form: &Form) -> Result<Insn, Misfit>
-    ensures { Gives result (insn_of fields.now form.now) }
+    ensures { Fits result (insn_of fields.now form.now) }
 {
     let Some((name, format)) = insn_shape(form) else {
         return Err(Misfit::Shape);
@@ -369,7 +372,7 @@ fn insn_of(alloc: Global, fields: &[Field], form: &Form) -> Result<Insn, Misfit>
 /// The instructions, at most 4,096, no two of one name.
 #[tactic(auto, unfolding(crate::specs::Thin::insns_of))]
 fn insns_of(alloc: Global, fields: &[Field], tops: &[Top]) -> Result<List<Insn>, Misfit>
-    ensures { Gives result (insns_of fields.now tops.now) }
+    ensures { Fits result (insns_of fields.now tops.now) }
 {
     let insns = each_insn(alloc, fields, tops)?;
     if insns.len() <= MOST_INSNS && are_distinct(insns.as_slice()) {
@@ -380,7 +383,7 @@ fn insns_of(alloc: Global, fields: &[Field], tops: &[Top]) -> Result<List<Insn>,
 }
 
 fn each_insn(alloc: Global, fields: &[Field], tops: &[Top]) -> Result<List<Insn>, Misfit>
-    ensures { Gives result (each (λ top. insn_of fields.now top.form) tops.now) }
+    ensures { Fits result (each (λ top. insn_of fields.now top.form) tops.now) }
 {
     let mut insns = List::new(alloc);
     for top in tops {
@@ -389,17 +392,25 @@ fn each_insn(alloc: Global, fields: &[Field], tops: &[Top]) -> Result<List<Insn>
     Ok(insns)
 }
 
+/// The instructions of the forms behind the frame, over the fields that stand in front of them.
+#[tactic(auto, unfolding(crate::specs::Thin::insns_behind))]
+fn insns_behind(alloc: Global, tops: &[Top]) -> Result<List<Insn>, Misfit>
+    ensures { Fits result (insns_behind tops.now) }
+{
+    let (front, back) = tops.split_at(count_fields(tops));
+    let fields = fields_of(alloc, front)?;
+    insns_of(alloc, fields.as_slice(), back)
+}
+
 /// The machine that the forms describe.
 #[tactic(auto, unfolding(crate::specs::Thin::thin))]
 pub fn thin_machine(alloc: Global, tops: &[Top]) -> Result<Machine, Misfit>
-    ensures { Gives result (thin tops.now) }
+    ensures { Fits result (thin tops.now) }
 {
     let Some((name, rest)) = frame_of(tops) else {
         return Err(Misfit::Shape);
     };
-    let (front, back) = rest.split_at(count_fields(rest));
-    let fields = fields_of(alloc, front)?;
-    let insns = insns_of(alloc, fields.as_slice(), back)?;
+    let insns = insns_behind(alloc, rest)?;
     Ok(Machine {
         name: name.clone()?,
         insns,

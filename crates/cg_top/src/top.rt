@@ -1,8 +1,11 @@
-ghost use Rattle.std.specs.Prelude.{◌≡◌, ◌⊎◌, ◌≤◌, ◌≢◌, None, OnOk, OnErr, IsErrOf, is_some};
+ghost use Rattle.std.specs.Prelude.{◌≡◌, ◌⊎◌, ◌≤◌, ◌≢◌, Some, None, OnOk, OnErr, IsErrOf, is_some, List as Listed};
 ghost use Rattle.cg_io.specs.Causes.{Rose};
-ghost use Rattle.cg_io.specs.Held.{appended};
+ghost use Rattle.cg_io.specs.Asking.{Asking};
+ghost use Rattle.cg_io.specs.Held.{Held, appended, AppendsFront};
 ghost use Rattle.cg_top.specs.Asking.{asked};
-ghost use Rattle.cg_top.specs.Top.{text_of, IsAnswered, IsUnread};
+ghost use Rattle.cg_top.specs.declared.replies.Reply.{Reply as Replied};
+ghost use Rattle.cg_top.specs.Answer.{Answer};
+ghost use Rattle.cg_top.specs.Top.{text_of, told, IsAnswered, IsUnread};
 
 use crate::replies::answer;
 use cg_base::Text;
@@ -26,12 +29,15 @@ fn tell<K: Sink>(lines: &[Text], out: &mut K) -> Result<(), WriteFault>
 /// (docs/RUNNING.md, "Statuses"). Each line is one `put`, and ends with byte 10. Status 4, want of
 /// memory, is the one answer that no clause ties to a cause.
 pub fn cgen<F: Files, K: Sink>(alloc: Global, words: &[Text], files: &mut F, out: &mut K) -> u8
-    // Where no count of faults rose and there was memory, the status is the answer's, and its
-    // text was written.
+    // Where no count of faults rose and there was memory, the status is the answer's, its text was
+    // written, and just what it reads was asked for.
     ensures headline { (Rose (F.faults files.old) (F.faults files.new) → ⊥) → (Rose (K.faults out.old) (K.faults out.new) → ⊥) → result ≢ 4
-        → IsAnswered words.now (F.held files.old) result (K.wrote out.old) (K.wrote out.new) }
-    // Any status but 3 and 4 is the answer's, and its text was written, whichever count rose.
-    ensures answered { result ≢ 3 → result ≢ 4 → IsAnswered words.now (F.held files.old) result (K.wrote out.old) (K.wrote out.new) }
+        → IsAnswered words.now (F.held files.old) result (told (F.asked files.old) (K.wrote out.old)) (told (F.asked files.new) (K.wrote out.new)) }
+    // The same holds of any status but 3 and 4, whichever count rose.
+    ensures answered { result ≢ 3 → result ≢ 4 → IsAnswered words.now (F.held files.old) result (told (F.asked files.old) (K.wrote out.old)) (told (F.asked files.new) (K.wrote out.new)) }
+    // Whatever the status, no more was asked for than the first names of what the answer without a
+    // fault reads, in its order and with its limits (`some_answer`: there is one).
+    ensures front { (held : Held) (reads : Listed Asking) (reply : Replied) → F.held files.old ≡ Some held → Answer words.now (Some held) ⊥ reads reply → AppendsFront (F.asked files.old) (F.asked files.new) reads }
     // Status 2 comes exactly where the words ask nothing, a fault of the sink and want of memory
     // aside.
     ensures asks { result ≡ 2 → asked words.now ≡ None }

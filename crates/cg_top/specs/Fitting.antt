@@ -4,7 +4,7 @@ use Rattle.cg_top.specs.declared.misfit.Misfit.{Misfit}
 use Rattle.cg_top.specs.declared.misfit.Misfit.TheVariants.{Shape, NoMemory}
 
 -- The answer is this value, or none where the shape is at fault. Memory may run out.
-abbrev pub Gives : {A : Type 0} → Result A Misfit → Option A → Type 0
-Gives (Ok value) answer = answer ≡ Some value
-Gives (Err Shape) answer = answer ≡ None
-Gives (Err NoMemory) answer = Unit {0}
+abbrev pub Fits : {A : Type 0} → Result A Misfit → Option A → Type 0
+Fits (Ok value) answer = answer ≡ Some value
+Fits (Err Shape) answer = answer ≡ None
+Fits (Err NoMemory) answer = Unit {0}
