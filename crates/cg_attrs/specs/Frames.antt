@@ -1,7 +1,7 @@
 -- What the forms that frame a machine say, where they have no fault.
 use Rattle.std.specs.Prelude.{ℕ, List, [], slice_get, Option, codes}
 use Rattle.std.specs.List.{filter_map}
-use Rattle.std.specs.Option.{option_map, unwrap_or}
+use Rattle.std.specs.Option.{unwrap_or}
 use Rattle.cg_base.specs.declared.form.Form.{Form}
 use Rattle.cg_base.specs.declared.form.Form.TheVariants.{Items}
 use Rattle.cg_attrs.specs.declared.frame.ArchForm.{ArchForm}
@@ -17,10 +17,13 @@ use Rattle.cg_attrs.specs.declared.frame.Frame.{Frame}
 use Rattle.cg_attrs.specs.declared.frame.Frame.TheVariants as frame
 use Rattle.cg_attrs.specs.declared.table.Kind.{Kind}
 use Rattle.cg_attrs.specs.declared.table.Kind.TheVariants as kind
-use Rattle.cg_base.specs.Parts.{◌>>=◌, symbol_of, word_of, elements_of, headed}
+use Rattle.cg_base.specs.Parts.{◌>>=◌, symbol_of, word_of, elements_of}
 use Rattle.cg_attrs.specs.Attrs.{attr_of}
 use Rattle.cg_attrs.specs.Lookups.{symbol_at, word_at, flag_at, number_at, optional_symbols, optional_form, wanted_symbol, wanted_number, wanted_symbols, wanted_form, attrs_at, units}
-use Rattle.cg_attrs.specs.Judging.{kind_as}
+use Rattle.cg_base.specs.Refusing.{FaultTexts}
+use Rattle.cg_attrs.specs.Judging.{own_faults, recognized, form_faults, said}
+use Rattle.cg_attrs.specs.Contents.{wrong, left_out}
+use Rattle.cg_attrs.specs.Tables.{kind_named, table_of}
 
 abbrev pub arch_of : List Form → ArchForm
 arch_of elements = record {
@@ -131,4 +134,8 @@ frame_in kind.Keyword elements = frame.Keyword (keyword_of elements)
 
 -- What a form without fault says.
 abbrev pub frame_of : Form → Option Frame
-frame_of f = option_map (λ x. frame_in x.0 x.1) (kind_as (headed f))
+frame_of f = said frame_in (recognized kind_named f)
+
+-- What is at fault in a form that is to frame a machine.
+abbrev pub frame_faults : Form → FaultTexts
+frame_faults f = form_faults (own_faults wrong left_out table_of) (recognized kind_named f)

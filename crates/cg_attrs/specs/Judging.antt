@@ -1,21 +1,40 @@
--- What is at fault in a form that is to frame a machine: for each refusal, the texts at fault, in the order of their places in
--- the form from left to right.
-use Rattle.std.specs.Prelude.{◌≡◌, ℕ, Bool, ◌||◌, nat_eq, if◌then◌else◌, List, [], ◌∷◌, ◌++◌, map, Option, Some, None, is_some, Result, Ok, Err, codes}
+-- What is at fault in a form, by the kinds of form that its reader reads: for each refusal, the texts at fault, in the order
+-- of their places in the form from left to right.
+use Rattle.std.specs.Prelude.{◌≡◌, ℕ, if◌then◌else◌, List, [], ◌∷◌, length, drop, map, Option, Some, None, Result, Ok, Err, codes}
+use Rattle.std.specs.List.{flat_map, zip}
 use Rattle.std.specs.Borrow.{Bor}
-use Rattle.std.specs.List.{cons_option}
-use Rattle.std.specs.Cmp.Lexicographic.{pointwise}
 use Rattle.cg_base.specs.declared.form.Form.{Form}
-use Rattle.cg_attrs.specs.declared.content.Content.{Content}
-use Rattle.cg_attrs.specs.declared.fault.Fault as declared
-use Rattle.cg_attrs.specs.declared.table.Kind.{Kind}
-use Rattle.cg_attrs.specs.declared.table.Kind.TheVariants as kind
+use Rattle.cg_base.specs.declared.fault.Fault as declared
+use Rattle.cg_attrs.specs.declared.judge.Named as declared_named
+use Rattle.cg_attrs.specs.declared.judge.Table as declared_table
+use Rattle.cg_attrs.specs.declared.judge.Table.TheVariants as table
 use Rattle.cg_base.specs.Parts.{Headed, headed}
-use Rattle.cg_attrs.specs.Clauses.{Row, misplaced, absent, wrong, left_out}
-use Rattle.cg_attrs.specs.Contents.{fits, leaves_out, fits_argument}
-use Rattle.cg_attrs.specs.Faults.{seen_fault, least}
-use Rattle.cg_attrs.specs.Tables.{kind_named, rows_of}
+use Rattle.cg_base.specs.Texts.{same_text}
+use Rattle.cg_base.specs.Refusing.{FaultTexts, seen_fault, least}
+use Rattle.cg_attrs.specs.Clauses.{Row, Texts, seen, clause_faults}
 
--- Where arguments stand by their places. E302: of each that has no row, the symbol that heads it, else `clause`.
+-- A word, and what it names: as a symbol, and the form that it heads.
+abbrev pub Named : Type 0 → Type 0
+Named K = List ℕ × K
+
+abbrev pub seen_named : {K : Type 0} → declared_named.Named K → Named K
+seen_named h = (h.name.now, h.kind)
+
+-- What a word names among these.
+abbrev pub kind_among : {K : Type 0} → List ℕ → List (Named K) → Option K
+kind_among name [] = None
+kind_among name (x ∷ xs) = if same_text x.0 name then Some x.1 else kind_among name xs
+
+-- What may stand behind the head of a form: clauses in any order, or arguments by their places.
+pub data Table (C : Type 0) : Type 0 where
+  Clauses : List (Row C) → Table C
+  Arguments : List (Row C) → Table C
+
+abbrev pub seen_table : {C : Type 0} → declared_table.Table C → Table C
+seen_table (table.Clauses rows) = Clauses (map seen rows.now)
+seen_table (table.Arguments rows) = Arguments (map seen rows.now)
+
+-- The symbol that heads an argument, else `clause`.
 abbrev pub heading_in : Option Headed → List ℕ
 heading_in None = codes "clause"
 heading_in (Some x) = x.0
@@ -23,105 +42,66 @@ heading_in (Some x) = x.0
 abbrev pub heading : Form → List ℕ
 heading f = heading_in (headed f)
 
-abbrev pub extra : List (Row Content) → List Form → List (List ℕ)
-extra [] fs = map heading fs
-extra (r ∷ rs) [] = []
-extra (r ∷ rs) (f ∷ fs) = extra rs fs
+-- E302 of arguments by their places: the headings of those that have no row.
+abbrev pub extra : {C : Type 0} → List (Row C) → List Form → List (List ℕ)
+extra rows arguments = map heading (drop (length rows) arguments)
 
 -- E303: the names of the rows that have no argument.
-abbrev pub missing : List (Row Content) → List Form → List (List ℕ)
-missing [] fs = []
-missing (r ∷ rs) [] = r.name ∷ missing rs []
-missing (r ∷ rs) (f ∷ fs) = missing rs fs
+abbrev pub missing : {C : Type 0} → List (Row C) → List Form → List (List ℕ)
+missing rows arguments = map (λ r. r.name) (drop (length arguments) rows)
 
--- E304: the names of the rows whose argument isn't of its kind.
-abbrev pub wrong_argument : Row Content → Form → Option (List ℕ)
-wrong_argument r f = if fits_argument r.content f then None else Some r.name
+-- E304: each argument is judged as a clause that has it alone behind its row's name.
+abbrev pub wrong_argument : {C : Type 0} → Texts C → Row C × Form → List (List ℕ)
+wrong_argument texts x = texts x.0.content (record { name = x.0.name; content = x.1 ∷ []; elements = [] })
 
-abbrev pub wrong_arguments : List (Row Content) → List Form → List (List ℕ)
-wrong_arguments [] fs = []
-wrong_arguments (r ∷ rs) [] = []
-wrong_arguments (r ∷ rs) (f ∷ fs) = cons_option (wrong_argument r f) (wrong_arguments rs fs)
+abbrev pub wrong_arguments : {C : Type 0} → Texts C → List (Row C) → List Form → List (List ℕ)
+wrong_arguments texts rows arguments = flat_map (wrong_argument texts) (zip rows arguments)
 
--- The texts at fault under each number, of the elements behind the head of a form.
-abbrev pub misplaced_of : Kind → List Form → List (List ℕ)
-misplaced_of kind.InsnEnum elements = extra (rows_of kind.InsnEnum) elements
-misplaced_of k elements = misplaced (rows_of k) [] elements
+-- The faults of arguments by their places.
+abbrev pub argument_faults : {C : Type 0} → Texts C → List (Row C) → List Form → FaultTexts
+argument_faults wrongs rows arguments = (302, extra rows arguments) ∷ (303, missing rows arguments) ∷ (304, wrong_arguments wrongs rows arguments) ∷ []
 
-abbrev pub absent_of : Kind → List Form → List (List ℕ)
-absent_of kind.InsnEnum elements = missing (rows_of kind.InsnEnum) elements
-absent_of k elements = absent (rows_of k) elements
+-- The faults of the elements behind the head of a form that has this table.
+abbrev pub table_faults : {C : Type 0} → Texts C → Texts C → Table C → List Form → FaultTexts
+table_faults wrongs left_outs (Clauses rows) elements = clause_faults wrongs left_outs rows elements
+table_faults wrongs left_outs (Arguments rows) elements = argument_faults wrongs rows elements
 
-abbrev pub wrong_of : Kind → List Form → List (List ℕ)
-wrong_of kind.InsnEnum elements = wrong_arguments (rows_of kind.InsnEnum) elements
-wrong_of k elements = wrong fits (rows_of k) elements
+-- The same of a form of this kind.
+abbrev pub own_faults : {K C : Type 0} → Texts C → Texts C → (K → Table C) → K → List Form → FaultTexts
+own_faults wrongs left_outs tables k elements = table_faults wrongs left_outs (tables k) elements
 
-abbrev pub left_out_of : Kind → List Form → List (List ℕ)
-left_out_of kind.InsnEnum elements = []
-left_out_of k elements = left_out leaves_out (rows_of k) elements
+-- What a form is to a reader: no list that a symbol heads; the form `if`, which is left out; a form that another symbol heads;
+-- a form that it reads, with the elements behind its head.
+pub data Recognized (K : Type 0) : Type 0 where
+  Headless : Recognized K
+  TheFormIf : Recognized K
+  Unknown : List ℕ → Recognized K
+  Known : K → List Form → Recognized K
 
--- The texts at fault of a form that frames a machine; another has none of them.
-abbrev pub of_kind : (Kind → List Form → List (List ℕ)) → List Form → Option Kind → List (List ℕ)
-of_kind faults elements None = []
-of_kind faults elements (Some k) = faults k elements
+abbrev pub recognized_by : {K : Type 0} → Headed → Option K → Recognized K
+recognized_by x None = Unknown x.0
+recognized_by x (Some k) = Known k x.1
 
-abbrev pub of_frame : (Kind → List Form → List (List ℕ)) → Option Headed → List (List ℕ)
-of_frame faults None = []
-of_frame faults (Some x) = of_kind faults x.1 (kind_named x.0)
+abbrev pub recognized_in : {K : Type 0} → (List ℕ → Option K) → Option Headed → Recognized K
+recognized_in named None = Headless
+recognized_in named (Some x) = if same_text (codes "if") x.0 then TheFormIf else recognized_by x (named x.0)
 
--- the head of a form that is left out
-abbrev pub is_if : List ℕ → Bool
-is_if head = pointwise nat_eq (codes "if") head
+abbrev pub recognized : {K : Type 0} → (List ℕ → Option K) → Form → Recognized K
+recognized named f = recognized_in named (headed f)
 
--- E301: the head of a form that doesn't frame a machine, or `form` where no symbol heads it.
-abbrev pub unnamed : Option Headed → List (List ℕ)
-unnamed None = codes "form" ∷ []
-unnamed (Some x) = if is_some (kind_named x.0) || is_if x.0 then [] else x.0 ∷ []
+-- What is at fault in a form.
+abbrev pub form_faults : {K : Type 0} → (K → List Form → FaultTexts) → Recognized K → FaultTexts
+form_faults own Headless = (301, codes "form" ∷ []) ∷ []
+form_faults own TheFormIf = (307, codes "if" ∷ []) ∷ []
+form_faults own (Unknown head) = (301, head ∷ []) ∷ []
+form_faults own (Known k elements) = own k elements
 
--- E307 of the form as a whole.
-abbrev pub left_out_form : Option Headed → List (List ℕ)
-left_out_form None = []
-left_out_form (Some x) = if is_if x.0 then codes "if" ∷ [] else []
+-- What a form says, by what the elements behind its head say.
+abbrev pub said : {K A : Type 0} → (K → List Form → A) → Recognized K → Option A
+said says (Known k elements) = Some (says k elements)
+said says _ = None
 
--- The texts at fault of a form.
-abbrev pub texts_301 : Option Headed → List (List ℕ)
-texts_301 f = unnamed f
-
-abbrev pub texts_302 : Option Headed → List (List ℕ)
-texts_302 f = of_frame misplaced_of f
-
-abbrev pub texts_303 : Option Headed → List (List ℕ)
-texts_303 f = of_frame absent_of f
-
-abbrev pub texts_304 : Option Headed → List (List ℕ)
-texts_304 f = of_frame wrong_of f
-
-abbrev pub texts_307 : Option Headed → List (List ℕ)
-texts_307 f = left_out_form f ++ of_frame left_out_of f
-
-abbrev pub faults_as : Option Headed → List (ℕ × List (List ℕ))
-faults_as f = (301, texts_301 f) ∷ (302, texts_302 f) ∷ (303, texts_303 f) ∷ (304, texts_304 f) ∷ (307, texts_307 f) ∷ []
-
-abbrev pub frame_faults : Form → List (ℕ × List (List ℕ))
-frame_faults f = faults_as (headed f)
-
--- The same of arguments by their places, and of the elements behind a head.
-abbrev pub argument_faults : List (Row Content) → List Form → List (ℕ × List (List ℕ))
-argument_faults rows arguments = (302, extra rows arguments) ∷ (303, missing rows arguments) ∷ (304, wrong_arguments rows arguments) ∷ []
-
-abbrev pub faults_of : Kind → List Form → List (ℕ × List (List ℕ))
-faults_of k elements = (302, misplaced_of k elements) ∷ (303, absent_of k elements) ∷ (304, wrong_of k elements) ∷ (307, left_out_of k elements) ∷ []
-
--- the form that frames a machine, and the elements behind its head
-abbrev pub kind_in : List Form → Option Kind → Option (Kind × List Form)
-kind_in elements None = None
-kind_in elements (Some k) = Some (k, elements)
-
-abbrev pub kind_as : Option Headed → Option (Kind × List Form)
-kind_as None = None
-kind_as (Some x) = kind_in x.1 (kind_named x.0)
-
--- A form without fault is this one, with these elements; otherwise this is its least fault.
-abbrev pub Judged : Option Headed → Result (Kind × Bor (List Form)) declared.Fault → Type 0
-Judged form (Ok x) = (least (faults_as form) ≡ None) × (kind_as form ≡ Some (x.0, x.1.now))
-Judged form (Err fault) = least (faults_as form) ≡ Some (seen_fault fault)
+-- A form without fault is of this kind and has these elements; otherwise this is its least fault.
+abbrev pub Judged : {K : Type 0} → (K → List Form → FaultTexts) → Recognized K → Result (K × Bor (List Form)) declared.Fault → Type 0
+Judged own form (Ok x) = (least (form_faults own form) ≡ None) × (form ≡ Known x.0 x.1.now)
+Judged own form (Err fault) = least (form_faults own form) ≡ Some (seen_fault fault)

@@ -1,9 +1,7 @@
-pub mod Tests
-pub mod Faults
 pub mod Attrs
 pub mod Clauses
 pub mod Contents
-pub mod Tables
 pub mod Judging
+pub mod Tables
 pub mod Lookups
 pub mod Frames

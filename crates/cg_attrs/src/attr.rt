@@ -1,12 +1,12 @@
-ghost use Rattle.std.specs.Prelude.{◌≡◌, [], ◌∷◌, ◌++◌, nat_eq, is_some, map, length, OnOk, IfOk};
-ghost use Rattle.std.specs.Option.{option_copied, option_map};
+ghost use Rattle.std.specs.Prelude.{◌≡◌, ◌++◌, codes, OnOk, IfOk};
+ghost use Rattle.std.specs.Option.{option_map};
 ghost use Rattle.std.specs.List.{list_any, list_all, filter_map};
-ghost use Rattle.std.specs.Cmp.Lexicographic.{pointwise};
-ghost use Rattle.cg_attrs.specs.Attrs.{is_bitset, is_known_flag, as_attr, flag_named, bare, single, given, given_in, attr_of, is_attr, all_attrs, attributes_of, attrs_of, attrs_faults, words_from, words, named};
-ghost use Rattle.cg_attrs.specs.Faults.{least, Answers};
+ghost use Rattle.cg_attrs.specs.Attrs.{is_bitset, is_known_flag, as_attr, flag_named, bare, single, given, given_in, attr_of, is_attr, attrs_of, attrs_faults, words_of, words, value_by_words};
+ghost use Rattle.cg_base.specs.Texts.{same_text};
+ghost use Rattle.cg_base.specs.Refusing.{refusal_at, least};
+ghost use Rattle.cg_base.specs.Answering.{Stops, GivesForm};
 
-use crate::fault::{Fault, refusal};
-use cg_base::{Form, List, NoMemory, Stop, Text, are_symbols, only};
+use cg_base::{Fault, Form, List, NoMemory, Stop, Text, are_symbols, is_among, only, stop_at};
 use std::alloc::Global;
 
 /// An attribute of a form (docs/LANGUAGE.md, "Attributes").
@@ -55,13 +55,6 @@ fn is_known_flag(name: &[u8]) -> bool
     ensures { result ≡ is_known_flag name.now }
 {
     is_among(KNOWN_FLAGS.as_slice(), name)
-}
-
-/// Whether the text is one of these.
-fn is_among(texts: &[&[u8]], text: &[u8]) -> bool
-    ensures { result ≡ list_any (λ t. pointwise nat_eq t.now text.now) texts.now }
-{
-    texts.iter().any(|each| *each == text)
 }
 
 /// The attributes that are known as flags.
@@ -185,24 +178,9 @@ pub(crate) fn are_attrs(forms: &[Form]) -> bool
     forms.iter().all(is_attr)
 }
 
-/// The forms, where each is an attribute.
-fn all_attrs(forms: &[Form]) -> Option<&[Form]>
-    ensures { option_copied result ≡ all_attrs forms.now }
-{
-    if are_attrs(forms) { Some(forms) } else { None }
-}
-
-/// The elements of a list of attributes.
-#[tactic(auto, unfolding(crate::specs::Attrs::attributes_of))]
-fn attributes(form: &Form) -> Option<&[Form]>
-    ensures { option_copied result ≡ attributes_of form.now }
-{
-    all_attrs(form.elements()?)
-}
-
 /// Puts the words between the commas of a text at the end.
 fn push_words(alloc: Global, names: &mut List<Text>, text: &[u8]) -> Result<(), NoMemory>
-    ensures { OnOk result (names.new ≡ names.old ++ words_from [] text.now) }
+    ensures { OnOk result (names.new ≡ names.old ++ words_of text.now) }
 {
     let mut word = Text::new(alloc);
     for byte in text {
@@ -230,8 +208,8 @@ fn words(alloc: Global, symbols: &[Form]) -> Result<List<Text>, NoMemory>
 }
 
 /// What an attribute says by its names.
-fn named(alloc: Global, name: &[u8], symbols: &[Form]) -> Result<AttrValue, NoMemory>
-    ensures { IfOk result (λ value. value ≡ named name.now (words symbols.now)) }
+fn value_by_words(alloc: Global, name: &[u8], symbols: &[Form]) -> Result<AttrValue, NoMemory>
+    ensures { IfOk result (λ value. value ≡ value_by_words name.now (words symbols.now)) }
 {
     let names = words(alloc, symbols)?;
     if is_bitset(name) {
@@ -250,7 +228,7 @@ fn owned(alloc: Global, name: &[u8], said: Said<'_>) -> Result<Attr, NoMemory>
     let value = match said {
         Said::Flag(flag) => AttrValue::Flag(flag),
         Said::Number(number) => AttrValue::Number(number),
-        Said::Names(symbols) => named(alloc, name, symbols)?,
+        Said::Names(symbols) => value_by_words(alloc, name, symbols)?,
     };
     Ok(Attr {
         name: Text::of(alloc, name)?,
@@ -271,20 +249,31 @@ pub(crate) fn attrs_among(alloc: Global, forms: &[Form]) -> Result<List<Attr>, N
     Ok(attrs)
 }
 
+/// What stops the reading of what isn't a list of attributes.
+fn no_attrs(alloc: Global) -> Stop
+    ensures { Stops (λ refusal. refusal ≡ refusal_at 0 0 (304, codes "attrs")) result }
+{
+    let fault = Fault {
+        number: 304,
+        text: b"attrs",
+    };
+    stop_at(alloc, 0, 0, fault)
+}
+
 /// The attributes of a list of them, which is what stands behind the name of a clause `attrs`.
 /// A form that is no list, or has an element that is no attribute, is E304 with the text
 /// `attrs` (docs/REFUSALS.md).
 pub fn read_attrs(alloc: Global, form: &Form) -> Result<List<Attr>, Stop>
-    ensures { Answers 0 0 (least (attrs_faults form.now)) (attrs_of form.now) result }
+    ensures { GivesForm 0 0 (least (attrs_faults form.now)) (attrs_of form.now) result }
 {
-    match attributes(form) {
-        Some(items) => Ok(attrs_among(alloc, items)?),
-        None => {
-            let fault = Fault {
-                number: 304,
-                text: b"attrs",
-            };
-            Err(Stop::Refused(refusal(alloc, 0, 0, fault)?))
+    match form.elements() {
+        Some(forms) => {
+            if are_attrs(forms) {
+                Ok(attrs_among(alloc, forms)?)
+            } else {
+                Err(no_attrs(alloc))
+            }
         }
+        None => Err(no_attrs(alloc)),
     }
 }

@@ -1,41 +1,58 @@
 //! The clauses of a form, judged by a table that has a row for each.
 
-ghost use Rattle.std.specs.Prelude.{◌≡◌, ℕ, Bool, List, Option, [], map, not};
+ghost use Rattle.std.specs.Prelude.{◌≡◌, ℕ, Bool, List, Option, map, not};
 ghost use Rattle.cg_base.specs.declared.form.Form.{Form};
 ghost use Rattle.std.specs.Option.{option_copied, option_map};
 ghost use Rattle.std.specs.List.{find, list_any};
 ghost use Rattle.cg_base.specs.Parts.{only_flag};
-ghost use Rattle.cg_attrs.specs.Tests.{passes};
-ghost use Rattle.cg_attrs.specs.Faults.{first, seen_fault, least};
-ghost use Rattle.cg_attrs.specs.Clauses.{seen, row_named, is_rule, counts_absent, stands_as, standing, content_of, content_at, may_stand, misplaced_at, misplaced, absent, wrong_at, wrong, left_out_at, left_out, clause_faults};
+ghost use Rattle.cg_base.specs.Refusing.{first, seen_fault, least};
+ghost use Rattle.cg_base.specs.Texts.{passes};
+ghost use Rattle.cg_attrs.specs.Attrs.{wrong_attrs};
+ghost use Rattle.cg_attrs.specs.Clauses.{seen, seen_clause, seen_role, row_named, holds_rule, is_besides, counts_absent, name_by, counts_as, stands_as, stands_for, standing, content_of, content_at, is_repeated, may_stand, misplaced_at, misplaced_among, misplaced, is_wanted, absent, wrong_standing, wrong, left_out_standing, left_out, clause_faults};
 
-use crate::fault::Fault;
-use cg_base::{Form, only_flag};
+use crate::attr::are_attrs;
+use cg_base::{Fault, Form, only_flag};
+
+/// A clause as it stands in a form.
+#[derive(Clone, Copy, Debug)]
+pub struct Clause<'a> {
+    /// Its name, as written.
+    pub name: &'a [u8],
+    /// What stands behind the name.
+    pub content: &'a [Form],
+    /// The elements behind the form's head, this clause among them. An argument that stands by its
+    /// place is seen without them.
+    pub elements: &'a [Form],
+}
 
 /// What has to stand behind the name of a clause: each reader of forms has a type of its own for
 /// it (docs/LANGUAGE.md, "Forms and clauses").
 pub trait ContentKind {
-    /// Forms are of this kind.
-    ghost fits: { Self → List Form → Bool };
+    ghost use Rattle.cg_attrs.specs.Clauses.{Clause};
 
-    /// The text of what this language leaves out of such forms, if anything.
-    ghost leaves_out: { Self → List Form → Option (List ℕ) };
+    /// The texts of E304 of a clause of this kind, in the order of their places in the form: its
+    /// own name where it isn't of the kind, then what is at fault inside it.
+    ghost wrong: { Self → Clause → List (List ℕ) };
 
-    /// Whether forms are of this kind. Forms of which something is left out may be.
-    fn fits(&self, forms: &[Form]) -> bool
-        ensures { result ≡ fits self.now forms.now };
+    /// The texts of E307, in the order of their places in the form.
+    ghost left_out: { Self → Clause → List (List ℕ) };
 
-    /// The text of what this language leaves out of forms of this kind, and None exactly where
-    /// it leaves out nothing.
-    fn leaves_out(&self, forms: &[Form]) -> Option<&'static [u8]>
-        ensures { option_copied result ≡ leaves_out self.now forms.now };
+    /// The first text of E304 of a clause, and None exactly where it has none.
+    fn first_wrong<'a>(&self, clause: Clause<'a>) -> Option<&'a [u8]>
+        ensures { option_copied result ≡ first (wrong self.now (seen_clause clause.entry)) };
+
+    /// The first text of E307 of a clause, and None exactly where it has none.
+    fn first_left_out<'a>(&self, clause: Clause<'a>) -> Option<&'a [u8]>
+        ensures { option_copied result ≡ first (left_out self.now (seen_clause clause.entry)) };
 }
 
 /// What a clause is to its form (docs/LANGUAGE.md, "Forms and clauses").
-#[derive(Clone, Copy, Debug, PartialEq, Eq)]
+#[derive(Clone, Copy, Debug)]
 pub enum Role {
     /// It has to stand, once.
     Wanted,
+    /// It may stand, once, and has to where the clause of this name stands.
+    WantedBeside(&'static [u8]),
     /// It may stand, once.
     Optional,
     /// It may stand, and again.
@@ -44,10 +61,13 @@ pub enum Role {
     Plain,
     /// It is a clause that is left out of this language.
     LeftOut,
+    /// It is another spelling of the clause of this name, and counts as that one.
+    SpellingOf(&'static [u8]),
 }
 
 /// A clause that a form may have: a row of the form's table. It counts as absent where nothing
-/// stands behind its name, or `#f` where a rule is meant.
+/// stands behind its name, or `#f` where a rule is meant. `comment` and `attrs`, which every form
+/// may have, stand in no table.
 #[derive(Clone, Copy, Debug)]
 pub struct Row<C> {
     /// The clause's name.
@@ -56,6 +76,18 @@ pub struct Row<C> {
     pub role: Role,
     /// What has to stand behind its name, judged whatever its role.
     pub content: C,
+}
+
+/// A row of a form's table: a clause's name, what it is to its form, what has to stand behind it.
+#[macro_export]
+macro_rules! row {
+    ($name:expr, $role:expr, $content:expr) => {
+        Row {
+            name: $name,
+            role: $role,
+            content: $content,
+        }
+    };
 }
 
 /// The row of the clause with this name. None exactly where no row has it.
@@ -71,13 +103,20 @@ fn row_named<'a, C>(rows: &'a [Row<C>], name: &[u8]) -> Option<&'a Row<C>>
 }
 
 /// Whether the clause of this name holds a rule.
-fn is_rule(name: &[u8]) -> bool
-    ensures { result ≡ is_rule name.now }
+fn holds_rule(name: &[u8]) -> bool
+    ensures { result ≡ holds_rule name.now }
 {
     matches!(
         name,
         b"encode" | b"decode" | b"insert" | b"extract" | b"get" | b"set"
     )
+}
+
+/// Whether every form may have the clause of this name.
+fn is_besides(name: &[u8]) -> bool
+    ensures { result ≡ is_besides name.now }
+{
+    matches!(name, b"comment" | b"attrs")
 }
 
 /// Whether the content is `#f`, which is no rule.
@@ -95,10 +134,10 @@ fn is_no_rule(content: &[Form]) -> bool
 fn counts_absent(name: &[u8], content: &[Form]) -> bool
     ensures { result ≡ counts_absent name.now content.now }
 {
-    content.is_empty() || (is_rule(name) && is_no_rule(content))
+    content.is_empty() || (holds_rule(name) && is_no_rule(content))
 }
 
-/// Whether the form is a clause of this name that doesn't count as absent.
+/// Whether the form is a clause of this name, as written, that doesn't count as absent.
 pub(crate) fn stands_as(form: &Form, name: &[u8]) -> bool
     ensures { result ≡ stands_as name.now form.now }
 {
@@ -109,27 +148,7 @@ pub(crate) fn stands_as(form: &Form, name: &[u8]) -> bool
     }
 }
 
-/// Whether one of the forms is a clause of this name that doesn't count as absent.
-fn stands_among(forms: &[Form], name: &[u8]) -> bool
-    ensures { result ≡ list_any (stands_as name.now) forms.now }
-{
-    forms.iter().any(|form| stands_as(form, name))
-}
-
-/// The row of a clause that doesn't count as absent, and what stands behind its name. None
-/// exactly where the form is no such clause or no row has its name.
-#[tactic(auto, unfolding(crate::specs::Clauses::standing))]
-fn standing<'a, C>(rows: &'a [Row<C>], form: &'a Form) -> Option<(&'a Row<C>, &'a [Form])>
-    ensures { option_map (λ x. (seen x.0.now, x.1.now)) result ≡ standing (map seen rows.now) form.now }
-{
-    let (name, content) = form.headed()?;
-    if counts_absent(name.as_slice(), content) {
-        return None;
-    }
-    Some((row_named(rows, name.as_slice())?, content))
-}
-
-/// The first clause of this name that doesn't count as absent.
+/// The first clause of this name, as written, that doesn't count as absent.
 fn first_clause<'a>(forms: &'a [Form], name: &[u8]) -> Option<&'a Form>
     ensures { option_copied result ≡ find (stands_as name.now) forms.now }
 {
@@ -154,12 +173,65 @@ pub fn content_at<'a>(forms: &'a [Form], name: &[u8]) -> Option<&'a [Form]>
     content(first_clause(forms, name)?)
 }
 
+/// The name under which a clause counts.
+fn name_by<'a>(name: &'a [u8], role: Role) -> &'a [u8]
+    ensures { result.now ≡ name_by name.now (seen_role role) }
+{
+    match role {
+        Role::SpellingOf(other) => other,
+        _ => name,
+    }
+}
+
+/// The name under which the clause of this name counts.
+fn counts_as<'a, C>(rows: &[Row<C>], name: &'a [u8]) -> &'a [u8]
+    ensures { result.now ≡ counts_as (map seen rows.now) name.now }
+{
+    match row_named(rows, name) {
+        Some(row) => name_by(name, row.role),
+        None => name,
+    }
+}
+
+/// Whether the form is a clause that counts under this name, and doesn't count as absent.
+fn stands_for<C>(rows: &[Row<C>], form: &Form, name: &[u8]) -> bool
+    ensures { result ≡ stands_for (map seen rows.now) name.now form.now }
+{
+    match form.headed() {
+        Some((head, content)) => counts_as(rows, head.as_slice()) == name
+            && !counts_absent(head.as_slice(), content),
+        None => false,
+    }
+}
+
+/// Whether one of the forms is a clause that counts under this name, and doesn't count as absent.
+fn stands_among<C>(rows: &[Row<C>], forms: &[Form], name: &[u8]) -> bool
+    ensures { result ≡ list_any (stands_for (map seen rows.now) name.now) forms.now }
+{
+    for form in forms {
+        if stands_for(rows, form, name) {
+            return true;
+        }
+    }
+    false
+}
+
+/// Whether a clause may be repeated.
+fn is_repeated(role: Role) -> bool
+    ensures { result ≡ is_repeated (seen_role role) }
+{
+    matches!(role, Role::Repeated)
+}
+
 /// Whether a clause may stand behind those before it.
 fn may_stand<C>(rows: &[Row<C>], before: &[Form], name: &[u8]) -> bool
     ensures { result ≡ may_stand (map seen rows.now) before.now name.now }
 {
+    if is_besides(name) {
+        return !stands_among(rows, before, name);
+    }
     match row_named(rows, name) {
-        Some(row) => row.role == Role::Repeated || !stands_among(before, name),
+        Some(row) => is_repeated(row.role) || !stands_among(rows, before, name_by(name, row.role)),
         None => false,
     }
 }
@@ -184,7 +256,7 @@ fn misplaced_at<'a, C>(rows: &[Row<C>], before: &[Form], form: &'a Form) -> Opti
 /// The first text of E302: the name of the first clause that has no row or stands twice, or
 /// `clause` where the first such element is no list that a symbol heads (docs/REFUSALS.md).
 fn first_misplaced<'a, C>(rows: &[Row<C>], elements: &'a [Form]) -> Option<&'a [u8]>
-    ensures { option_copied result ≡ first (misplaced (map seen rows.now) [] elements.now) }
+    ensures { option_copied result ≡ first (misplaced (map seen rows.now) elements.now) }
 {
     for (i, element) in elements.iter().enumerate() {
         if let Some(text) = misplaced_at(rows, &elements[..i], element) {
@@ -194,65 +266,109 @@ fn first_misplaced<'a, C>(rows: &[Row<C>], elements: &'a [Form]) -> Option<&'a [
     None
 }
 
+/// Whether a clause is wanted in a form of these elements.
+fn is_wanted<C>(rows: &[Row<C>], elements: &[Form], role: Role) -> bool
+    ensures { result ≡ is_wanted (map seen rows.now) elements.now (seen_role role) }
+{
+    match role {
+        Role::Wanted => true,
+        Role::WantedBeside(other) => stands_among(rows, elements, other),
+        _ => false,
+    }
+}
+
 /// The first text of E303: the name of the first row whose clause is wanted and absent
 /// (docs/REFUSALS.md).
 fn first_absent<C>(rows: &[Row<C>], elements: &[Form]) -> Option<&'static [u8]>
     ensures { option_copied result ≡ first (absent (map seen rows.now) elements.now) }
 {
     for row in rows {
-        if row.role == Role::Wanted && !stands_among(elements, row.name) {
+        if is_wanted(rows, elements, row.role) && !stands_among(rows, elements, row.name) {
             return Some(row.name);
         }
     }
     None
 }
 
-/// The name of a clause whose content isn't of its kind.
-#[tactic(auto, unfolding(crate::specs::Clauses::wrong_at))]
-fn wrong_at<C: ContentKind>(rows: &[Row<C>], form: &Form) -> Option<&'static [u8]>
-    ensures { option_copied result ≡ wrong_at C.fits (map seen rows.now) form.now }
+/// The clause that an element is, where it doesn't count as absent.
+#[tactic(auto, unfolding(crate::specs::Clauses::standing))]
+fn standing<'a>(elements: &'a [Form], form: &'a Form) -> Option<Clause<'a>>
+    ensures { option_map seen_clause result ≡ standing elements.now form.now }
 {
-    let (row, content) = standing(rows, form)?;
-    if row.content.fits(content) {
+    let (name, content) = form.headed()?;
+    let name = name.as_slice();
+    if counts_absent(name, content) {
+        return None;
+    }
+    Some(Clause {
+        name,
+        content,
+        elements,
+    })
+}
+
+/// `attrs`, where what stands behind that name isn't attributes alone.
+fn wrong_attrs(content: &[Form]) -> Option<&'static [u8]>
+    ensures { option_copied result ≡ first (wrong_attrs content.now) }
+{
+    if are_attrs(content) {
         None
     } else {
-        Some(row.name)
+        Some(b"attrs")
     }
 }
 
-/// The first text of E304: the name of the first clause whose content isn't of its kind
-/// (docs/REFUSALS.md).
-fn first_wrong<C: ContentKind>(rows: &[Row<C>], elements: &[Form]) -> Option<&'static [u8]>
-    ensures { option_copied result ≡ first (wrong C.fits (map seen rows.now) elements.now) }
+/// The first text of E304 of a clause.
+fn wrong_standing<'a, C: ContentKind>(rows: &[Row<C>], clause: Clause<'a>) -> Option<&'a [u8]>
+    ensures { option_copied result ≡ first (wrong_standing C.wrong (map seen rows.now) (seen_clause clause.entry)) }
+{
+    match clause.name {
+        b"attrs" => wrong_attrs(clause.content),
+        _ => match row_named(rows, clause.name) {
+            Some(row) => row.content.first_wrong(clause),
+            None => None,
+        },
+    }
+}
+
+/// The first text of E304 (docs/REFUSALS.md).
+#[tactic(auto, using(crate::proofs::Firsts::first_append))]
+fn first_wrong<'a, C: ContentKind>(rows: &[Row<C>], elements: &'a [Form]) -> Option<&'a [u8]>
+    ensures { option_copied result ≡ first (wrong C.wrong (map seen rows.now) elements.now) }
 {
     for element in elements {
-        if let Some(text) = wrong_at(rows, element) {
-            return Some(text);
+        if let Some(clause) = standing(elements, element) {
+            if let Some(text) = wrong_standing(rows, clause) {
+                return Some(text);
+            }
         }
     }
     None
 }
 
-/// The name of a clause that is left out, or what is left out of its content.
-#[tactic(auto, unfolding(crate::specs::Clauses::left_out_at))]
-fn left_out_at<C: ContentKind>(rows: &[Row<C>], form: &Form) -> Option<&'static [u8]>
-    ensures { option_copied result ≡ left_out_at C.leaves_out (map seen rows.now) form.now }
+/// The first text of E307 of a clause.
+fn left_out_standing<'a, C: ContentKind>(rows: &[Row<C>], clause: Clause<'a>) -> Option<&'a [u8]>
+    ensures { option_copied result ≡ first (left_out_standing C.left_out (map seen rows.now) (seen_clause clause.entry)) }
 {
-    let (row, content) = standing(rows, form)?;
-    if row.role == Role::LeftOut {
-        return Some(row.name);
+    match row_named(rows, clause.name) {
+        Some(row) => match row.role {
+            Role::LeftOut => Some(row.name),
+            _ => row.content.first_left_out(clause),
+        },
+        None => None,
     }
-    row.content.leaves_out(content)
 }
 
-/// The first text of E307: the first clause, or the first word of one, that is left out
-/// (docs/REFUSALS.md).
-fn first_left_out<C: ContentKind>(rows: &[Row<C>], elements: &[Form]) -> Option<&'static [u8]>
-    ensures { option_copied result ≡ first (left_out C.leaves_out (map seen rows.now) elements.now) }
+/// The first text of E307 (docs/REFUSALS.md).
+#[tactic(auto, using(crate::proofs::Firsts::first_append))]
+fn first_left_out<'a, C: ContentKind>(rows: &[Row<C>], elements: &'a [Form]) -> Option<&'a [u8]>
+    ensures { option_copied result ≡ first (left_out C.left_out (map seen rows.now) elements.now) }
 {
     for element in elements {
-        if let Some(text) = left_out_at(rows, element) {
-            return Some(text);
+        if let Some(clause) = standing(elements, element) {
+            if let Some(text) = left_out_standing(rows, clause) {
+                return Some(text);
+            }
         }
     }
     None
@@ -261,8 +377,11 @@ fn first_left_out<C: ContentKind>(rows: &[Row<C>], elements: &[Form]) -> Option<
 /// The least fault of the clauses of a form, which are the elements behind its head, by the
 /// form's table: E302, E303, E304 or E307, by number and then by place. None exactly where they
 /// have no such fault (docs/REFUSALS.md).
-pub fn clause_fault<'a, C: ContentKind>(rows: &[Row<C>], elements: &'a [Form]) -> Option<Fault<'a>>
-    ensures { option_map seen_fault result ≡ least (clause_faults C.fits C.leaves_out (map seen rows.now) elements.now) }
+pub(crate) fn clause_fault<'a, C: ContentKind>(
+    rows: &[Row<C>],
+    elements: &'a [Form],
+) -> Option<Fault<'a>>
+    ensures { option_map seen_fault result ≡ least (clause_faults C.wrong C.left_out (map seen rows.now) elements.now) }
 {
     if let Some(text) = first_misplaced(rows, elements) {
         return Some(Fault { number: 302, text });

@@ -1,18 +1,21 @@
 //! What may stand behind the name of a clause.
 
-ghost use Rattle.std.specs.Prelude.{◌≡◌, pos, Some};
+ghost use Rattle.std.specs.Prelude.{◌≡◌, nat_le, pos, Some};
 ghost use Rattle.std.specs.Option.{option_copied};
-ghost use Rattle.cg_base.specs.Parts.{only_symbol, only_natural};
-ghost use Rattle.cg_attrs.specs.Tests.{passes};
-ghost use Rattle.cg_attrs.specs.Contents.{is_alignment, is_endian, is_bit_size, is_word_size, is_positive, is_cycles, is_unit, is_item_name, valued, item_value, next_value, are_items, fits, either, leaves_out, fits_argument};
+ghost use Rattle.cg_base.specs.Parts.{only, only_symbol, only_natural};
+ghost use Rattle.cg_base.specs.Texts.{passes};
+ghost use Rattle.std.specs.List.{list_all};
+ghost use Rattle.cg_base.specs.Refusing.{first};
+ghost use Rattle.cg_attrs.specs.Attrs.{is_attr};
+ghost use Rattle.cg_attrs.specs.Contents.{is_alignment, is_endian, is_bit_size, is_word_size, is_small, is_unit, is_item_name, valued, item_value, next_value, are_items, only_elements, fits, misfit, either, left_out_of};
 
 use crate::attr::are_attrs;
-use crate::clauses::ContentKind;
-use cg_base::{Form, are_symbols, only_flag, only_natural, only_symbol, only_word};
+use crate::clauses::{Clause, ContentKind};
+use cg_base::{Form, are_symbols, only, only_flag, only_natural, only_symbol, only_word};
 
 /// What has to stand behind a clause's name (docs/LANGUAGE.md, "Forms and clauses").
 #[derive(Clone, Copy, Debug, PartialEq, Eq)]
-pub(crate) enum Content {
+pub enum Content {
     /// One symbol.
     Symbol,
     /// Symbols.
@@ -31,6 +34,8 @@ pub(crate) enum Content {
     WordSize,
     /// A number from 1.
     Positive,
+    /// A number from 0 to 65,535.
+    Small,
     /// `name comment attrs issue done state inputs outputs profile`, with a symbol `name` and
     /// `done` from 0 to 65,535.
     Unit,
@@ -38,8 +43,10 @@ pub(crate) enum Content {
     /// `(name value ..)`. A name alone has the value before it plus 1, the first 0, and that value
     /// has 64 bits.
     Items,
-    /// Attributes.
-    Attributes,
+    /// One list of attributes.
+    AttributeList,
+    /// One list of items.
+    ItemList,
     /// Anything.
     Anything,
 }
@@ -47,17 +54,24 @@ pub(crate) enum Content {
 impl ContentKind for Content {
     ghost use Rattle.cg_attrs.specs.Contents as contents;
 
-    ghost fits = { contents.fits };
+    ghost wrong = { contents.wrong };
 
-    ghost leaves_out = { contents.leaves_out };
+    ghost left_out = { contents.left_out };
 
-    fn fits(&self, forms: &[Form]) -> bool {
-        fits(*self, forms)
+    fn first_wrong<'a>(&self, clause: Clause<'a>) -> Option<&'a [u8]> {
+        misfit(fits(*self, clause.content), clause.name)
     }
 
-    fn leaves_out(&self, forms: &[Form]) -> Option<&'static [u8]> {
-        leaves_out(*self, forms)
+    fn first_left_out<'a>(&self, clause: Clause<'a>) -> Option<&'a [u8]> {
+        first_left_out(*self, clause.content)
     }
+}
+
+/// The text of E304 of a clause that is no more than of its kind or not: its name where it isn't.
+pub fn misfit(of_its_kind: bool, name: &[u8]) -> Option<&[u8]>
+    ensures { option_copied result ≡ first (misfit of_its_kind name.now) }
+{
+    if of_its_kind { None } else { Some(name) }
 }
 
 /// Whether the text names what happens to accesses that are not aligned.
@@ -116,7 +130,7 @@ fn fits_word_size(forms: &[Form]) -> bool
 
 /// Whether the content is a number from 1.
 fn fits_positive(forms: &[Form]) -> bool
-    ensures { result ≡ passes is_positive (only_natural forms.now) }
+    ensures { result ≡ passes (λ n. nat_le 1 n) (only_natural forms.now) }
 {
     match only_natural(forms) {
         Some(count) => count >= 1,
@@ -124,12 +138,22 @@ fn fits_positive(forms: &[Form]) -> bool
     }
 }
 
-/// Whether the form is a number of cycles, from 0 to 65,535.
-fn is_cycles(form: &Form) -> bool
-    ensures { result ≡ is_cycles form.now }
+/// Whether the form is a number from 0 to 65,535.
+pub fn is_small(form: &Form) -> bool
+    ensures { result ≡ is_small form.now }
 {
     match form.natural() {
-        Some(cycles) => cycles <= 65535,
+        Some(number) => number <= 65535,
+        None => false,
+    }
+}
+
+/// Whether the content is a number from 0 to 65,535.
+fn fits_small(forms: &[Form]) -> bool
+    ensures { result ≡ passes is_small (only forms.now) }
+{
+    match only(forms) {
+        Some(form) => is_small(form),
         None => false,
     }
 }
@@ -139,13 +163,13 @@ fn is_unit(forms: &[Form]) -> bool
     ensures { result ≡ is_unit forms.now }
 {
     match forms {
-        [name, _, _, _, done, _, _, _, _] => name.is_symbol() && is_cycles(done),
+        [name, _, _, _, done, _, _, _, _] => name.is_symbol() && is_small(done),
         _ => false,
     }
 }
 
-/// Whether the form is a name of an item.
-fn is_item_name(form: &Form) -> bool
+/// Whether the form is the name of an item of an enum or a keyword: a symbol, a string or a number.
+pub fn is_item_name(form: &Form) -> bool
     ensures { result ≡ is_item_name form.now }
 {
     form.word().is_some() || form.number().is_some()
@@ -183,8 +207,8 @@ fn next_value(value: i64) -> Option<i64>
     }
 }
 
-/// Whether the content is items of an enum or a keyword.
-fn are_items(forms: &[Form]) -> bool
+/// Whether the forms are items of an enum or a keyword, each with a value of 64 bits.
+pub fn are_items(forms: &[Form]) -> bool
     ensures { result ≡ are_items (Some (pos 0)) forms.now }
 {
     let mut plain = Some(0);
@@ -212,16 +236,46 @@ fn fits(content: Content, forms: &[Form]) -> bool
         Content::BitSize => fits_bit_size(forms),
         Content::WordSize => fits_word_size(forms),
         Content::Positive => fits_positive(forms),
+        Content::Small => fits_small(forms),
         Content::Unit => is_unit(forms),
         Content::Items => are_items(forms),
-        Content::Attributes => are_attrs(forms),
+        Content::AttributeList => is_attribute_list(forms),
+        Content::ItemList => is_item_list(forms),
         Content::Anything => true,
     }
 }
 
+/// The elements of the one list that a content is. None exactly where it is something else.
+#[tactic(auto, unfolding(crate::specs::Contents::only_elements))]
+pub fn only_elements(forms: &[Form]) -> Option<&[Form]>
+    ensures { option_copied result ≡ only_elements forms.now }
+{
+    only(forms)?.elements()
+}
+
+/// Whether the content is one list of attributes.
+fn is_attribute_list(forms: &[Form]) -> bool
+    ensures { result ≡ passes (list_all is_attr) (only_elements forms.now) }
+{
+    match only_elements(forms) {
+        Some(elements) => are_attrs(elements),
+        None => false,
+    }
+}
+
+/// Whether the content is one list of items.
+fn is_item_list(forms: &[Form]) -> bool
+    ensures { result ≡ passes (are_items (Some (pos 0))) (only_elements forms.now) }
+{
+    match only_elements(forms) {
+        Some(elements) => are_items(elements),
+        None => false,
+    }
+}
+
 /// What is left out of what stands behind a clause's name: `either` of an endian.
-fn leaves_out(content: Content, forms: &[Form]) -> Option<&'static [u8]>
-    ensures { option_copied result ≡ leaves_out content forms.now }
+fn first_left_out(content: Content, forms: &[Form]) -> Option<&'static [u8]>
+    ensures { option_copied result ≡ first (left_out_of content forms.now) }
 {
     match content {
         Content::Endian => either(forms),
@@ -231,7 +285,7 @@ fn leaves_out(content: Content, forms: &[Form]) -> Option<&'static [u8]>
 
 /// `either`, where the content is that symbol.
 fn either(forms: &[Form]) -> Option<&'static [u8]>
-    ensures { option_copied result ≡ either forms.now }
+    ensures { option_copied result ≡ first (either forms.now) }
 {
     match only_symbol(forms) {
         Some(text) => match text.as_slice() {
@@ -239,19 +293,5 @@ fn either(forms: &[Form]) -> Option<&'static [u8]>
             _ => None,
         },
         None => None,
-    }
-}
-
-/// Whether an argument of `define-normal-insn-enum` is of its kind: attributes and items stand
-/// in a list of their own.
-pub(crate) fn fits_argument(content: Content, form: &Form) -> bool
-    ensures { result ≡ fits_argument content form.now }
-{
-    match content {
-        Content::Attributes | Content::Items => match form.elements() {
-            Some(elements) => fits(content, elements),
-            None => false,
-        },
-        _ => fits(content, std::slice::from_ref(form)),
     }
 }

@@ -5,21 +5,23 @@
 mod attr;
 mod clauses;
 mod content;
-mod fault;
 mod frame;
 mod judge;
 mod lookup;
 mod read;
 mod table;
-#[cfg(test)]
-mod tests;
 
 pub use attr::{Attr, AttrValue, read_attrs};
-pub use clauses::{ContentKind, Role, Row, clause_fault, content_at};
-pub use fault::{Fault, refusal};
+pub use clauses::{Clause, ContentKind, Role, Row, content_at};
+pub use content::{Content, are_items, is_item_name, is_small, misfit, only_elements};
 pub use frame::{
     ArchForm, AttrForm, CpuForm, EnumForm, Frame, InsnEnumForm, IsaForm, KeywordForm, MachForm,
     ModelForm,
 };
-pub use lookup::attrs_at;
+pub use judge::{FormKind, Named, Table, judged, kind_among};
+pub use lookup::{
+    attrs_at, is_named, list_of, optional_flag, optional_form, optional_number, optional_symbol,
+    optional_symbols, optional_word, wanted_form, wanted_number, wanted_symbol, wanted_symbols,
+    wanted_word,
+};
 pub use read::read_frame;

@@ -5,8 +5,9 @@ ghost use Rattle.std.specs.Prelude.{◌≡◌, pos, [], ◌++◌, map, slice_get
 ghost use Rattle.std.specs.Option.{option_copied, option_map, unwrap_or};
 ghost use Rattle.std.specs.List.{filter_map};
 ghost use Rattle.cg_base.specs.declared.form.Form.TheVariants.{Items};
+ghost use Rattle.cg_base.specs.Texts.{is_named};
 ghost use Rattle.cg_base.specs.Parts.{symbol_of};
-ghost use Rattle.cg_attrs.specs.Lookups.{symbol_at, word_at, flag_at, number_at, content_or_none, wanted_symbol, wanted_number, wanted_symbols, optional_symbols, wanted_form, optional_form, attrs_at, unit_of, units};
+ghost use Rattle.cg_attrs.specs.Lookups.{symbol_at, word_at, flag_at, number_at, content_or_none, wanted_symbol, wanted_word, wanted_number, wanted_symbols, optional_symbols, wanted_form, optional_form, attrs_at, unit_of, units};
 
 use crate::attr::{Attr, attrs_among};
 use crate::clauses::{content, content_at, stands_as};
@@ -33,6 +34,16 @@ fn optional_text(text: Option<&Text>) -> Result<Option<Text>, NoMemory>
     }
 }
 
+/// Whether the form is the symbol of this name.
+pub fn is_named(form: &Form, name: &[u8]) -> bool
+    ensures { result ≡ is_named name.now (symbol_of form.now) }
+{
+    match form.symbol() {
+        Some(text) => text.as_slice() == name,
+        None => false,
+    }
+}
+
 /// The symbol of a clause.
 #[tactic(auto, unfolding(crate::specs::Lookups::symbol_at))]
 fn symbol_at<'a>(elements: &'a [Form], name: &[u8]) -> Option<&'a Text>
@@ -51,7 +62,7 @@ fn word_at<'a>(elements: &'a [Form], name: &[u8]) -> Option<&'a Text>
 
 /// The flag of a clause that may be absent.
 #[tactic(auto, unfolding(crate::specs::Lookups::flag_at))]
-pub(crate) fn optional_flag(elements: &[Form], name: &[u8]) -> Option<bool>
+pub fn optional_flag(elements: &[Form], name: &[u8]) -> Option<bool>
     ensures { result ≡ flag_at name.now elements.now }
 {
     only_flag(content_at(elements, name)?)
@@ -59,35 +70,42 @@ pub(crate) fn optional_flag(elements: &[Form], name: &[u8]) -> Option<bool>
 
 /// The number of a clause that may be absent.
 #[tactic(auto, unfolding(crate::specs::Lookups::number_at))]
-pub(crate) fn optional_number(elements: &[Form], name: &[u8]) -> Option<i64>
+pub fn optional_number(elements: &[Form], name: &[u8]) -> Option<i64>
     ensures { result ≡ number_at name.now elements.now }
 {
     only_number(content_at(elements, name)?)
 }
 
 /// The symbol of a clause that stands.
-pub(crate) fn wanted_symbol(alloc: Global, elements: &[Form], name: &[u8]) -> Result<Text, NoMemory>
+pub fn wanted_symbol(alloc: Global, elements: &[Form], name: &[u8]) -> Result<Text, NoMemory>
     ensures { IfOk result (λ text. text ≡ wanted_symbol name.now elements.now) }
 {
     text_or_none(alloc, symbol_at(elements, name))
 }
 
+/// The symbol or string of a clause that stands.
+pub fn wanted_word(alloc: Global, elements: &[Form], name: &[u8]) -> Result<Text, NoMemory>
+    ensures { IfOk result (λ text. text ≡ wanted_word name.now elements.now) }
+{
+    text_or_none(alloc, word_at(elements, name))
+}
+
 /// The symbol of a clause that may be absent.
-pub(crate) fn optional_symbol(elements: &[Form], name: &[u8]) -> Result<Option<Text>, NoMemory>
+pub fn optional_symbol(elements: &[Form], name: &[u8]) -> Result<Option<Text>, NoMemory>
     ensures { IfOk result (λ text. text ≡ symbol_at name.now elements.now) }
 {
     optional_text(symbol_at(elements, name))
 }
 
 /// The symbol or string of a clause that may be absent.
-pub(crate) fn optional_word(elements: &[Form], name: &[u8]) -> Result<Option<Text>, NoMemory>
+pub fn optional_word(elements: &[Form], name: &[u8]) -> Result<Option<Text>, NoMemory>
     ensures { IfOk result (λ text. text ≡ word_at name.now elements.now) }
 {
     optional_text(word_at(elements, name))
 }
 
 /// The number of a clause that stands.
-pub(crate) fn wanted_number(elements: &[Form], name: &[u8]) -> i64
+pub fn wanted_number(elements: &[Form], name: &[u8]) -> i64
     ensures { result ≡ wanted_number name.now elements.now }
 {
     optional_number(elements, name).unwrap_or(0)
@@ -117,18 +135,14 @@ fn texts(alloc: Global, forms: &[Form]) -> Result<List<Text>, NoMemory>
 }
 
 /// The symbols of a clause that stands.
-pub(crate) fn wanted_symbols(
-    alloc: Global,
-    elements: &[Form],
-    name: &[u8],
-) -> Result<List<Text>, NoMemory>
+pub fn wanted_symbols(alloc: Global, elements: &[Form], name: &[u8]) -> Result<List<Text>, NoMemory>
     ensures { IfOk result (λ texts. texts ≡ wanted_symbols name.now elements.now) }
 {
     texts(alloc, content_or_none(elements, name))
 }
 
 /// The symbols of a clause that may be absent.
-pub(crate) fn optional_symbols(
+pub fn optional_symbols(
     alloc: Global,
     elements: &[Form],
     name: &[u8],
@@ -142,7 +156,7 @@ pub(crate) fn optional_symbols(
 }
 
 /// The forms as a list of their own.
-pub(crate) fn list_of(alloc: Global, forms: &[Form]) -> Result<Form, NoMemory>
+pub fn list_of(alloc: Global, forms: &[Form]) -> Result<Form, NoMemory>
     ensures { IfOk result (λ list. list ≡ Items forms.now) }
 {
     let mut copies = List::new(alloc);
@@ -153,14 +167,14 @@ pub(crate) fn list_of(alloc: Global, forms: &[Form]) -> Result<Form, NoMemory>
 }
 
 /// What stands behind the name of a clause that stands.
-pub(crate) fn wanted_form(alloc: Global, elements: &[Form], name: &[u8]) -> Result<Form, NoMemory>
+pub fn wanted_form(alloc: Global, elements: &[Form], name: &[u8]) -> Result<Form, NoMemory>
     ensures { IfOk result (λ form. form ≡ wanted_form name.now elements.now) }
 {
     list_of(alloc, content_or_none(elements, name))
 }
 
 /// What stands behind the name of a clause that may be absent.
-pub(crate) fn optional_form(
+pub fn optional_form(
     alloc: Global,
     elements: &[Form],
     name: &[u8],

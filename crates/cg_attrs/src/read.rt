@@ -2,12 +2,11 @@
 
 ghost use Rattle.std.specs.Prelude.{◌≡◌, IfOk};
 ghost use Rattle.std.specs.Option.{option_copied};
-ghost use Rattle.cg_attrs.specs.Faults.{least, Answers};
-ghost use Rattle.cg_attrs.specs.Judging.{frame_faults};
-ghost use Rattle.cg_attrs.specs.Frames.{arch_of, isa_of, cpu_of, mach_of, model_of, attr_def_of, enum_of, insn_enum_of, keyword_of, symbol_by_place, word_by_place, elements_by_place, elements_or_none, frame_in, frame_of};
+ghost use Rattle.cg_base.specs.Refusing.{least};
+ghost use Rattle.cg_base.specs.Answering.{GivesForm};
+ghost use Rattle.cg_attrs.specs.Frames.{arch_of, isa_of, cpu_of, mach_of, model_of, attr_def_of, enum_of, insn_enum_of, keyword_of, symbol_by_place, word_by_place, elements_by_place, elements_or_none, frame_in, frame_of, frame_faults};
 
 use crate::attr::attrs_among;
-use crate::fault::refusal;
 use crate::frame::{
     ArchForm, AttrForm, CpuForm, EnumForm, Frame, InsnEnumForm, IsaForm, KeywordForm, MachForm,
     ModelForm,
@@ -19,7 +18,7 @@ use crate::lookup::{
     wanted_symbol, wanted_symbols,
 };
 use crate::table::Kind;
-use cg_base::{Form, NoMemory, Stop, Text, Top};
+use cg_base::{Form, NoMemory, Stop, Text, Top, stop_at};
 use std::alloc::Global;
 
 fn arch(alloc: Global, elements: &[Form]) -> Result<ArchForm, NoMemory>
@@ -194,10 +193,10 @@ fn frame(alloc: Global, kind: Kind, elements: &[Form]) -> Result<Frame, NoMemory
 /// - E304: content that is not of its clause's kind.
 /// - E307: a clause that is left out, `either` as an endian, and the form `if`.
 pub fn read_frame(alloc: Global, top: &Top) -> Result<Frame, Stop>
-    ensures { Answers top.now.file top.now.line (least (frame_faults top.now.form)) (frame_of top.now.form) result }
+    ensures { GivesForm top.now.file top.now.line (least (frame_faults top.now.form)) (frame_of top.now.form) result }
 {
-    match judged(&top.form) {
+    match judged::<Kind>(&top.form) {
         Ok((kind, elements)) => Ok(frame(alloc, kind, elements)?),
-        Err(fault) => Err(Stop::Refused(refusal(alloc, top.file, top.line, fault)?)),
+        Err(fault) => Err(stop_at(alloc, top.file, top.line, fault)),
     }
 }

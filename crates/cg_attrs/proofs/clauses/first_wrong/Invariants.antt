@@ -1,7 +1,11 @@
 use Rattle.std.proofs.Common.{◌≡◌, drop, map}
-use Rattle.cg_attrs.specs.Clauses.{seen, wrong}
+use Rattle.std.specs.List.{filter_map, flat_map}
+use Rattle.cg_base.specs.Refusing.{first}
+use Rattle.cg_attrs.specs.Clauses.{seen, standing, wrong_standing, wrong}
 use Rattle.cg_attrs.proofs.clauses.first_wrong.Given as goal
 
--- what is left has the faults of the whole
+-- what is left has the first text of the whole
 abbrev pub invariant-loop-element : goal.invariant-loop-element
-invariant-loop-element g l = wrong g.C.ContentKind.fits (map seen l.rows) (drop l.element-index l.elements) ≡ wrong g.C.ContentKind.fits (map seen l.rows) l.elements
+invariant-loop-element g l =
+    first (flat_map (wrong_standing g.C.ContentKind.wrong (map seen l.rows)) (filter_map (standing l.elements) (drop l.element-index l.elements))) ≡
+    first (wrong g.C.ContentKind.wrong (map seen l.rows) l.elements)
