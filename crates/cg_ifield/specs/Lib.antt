@@ -1,0 +1,4 @@
+pub mod Sets
+pub mod Contents
+pub mod Tables
+pub mod Fields

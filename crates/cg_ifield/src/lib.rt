@@ -1,0 +1,11 @@
+//! Reading the forms of fields, plain and multi.
+#![tactic(auto)]
+
+mod content;
+mod form;
+mod read;
+mod sets;
+mod table;
+
+pub use form::{FieldForm, MultiForm, PlainForm};
+pub use read::read_field;
