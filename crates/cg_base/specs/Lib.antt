@@ -12,3 +12,5 @@ pub mod ModeWords
 pub mod Parts
 pub mod Refusing
 pub mod Answering
+pub mod Counts
+pub mod Accesses

@@ -3,7 +3,7 @@ use Rattle.std.specs.Prelude.{ℕ, ◌+◌, ◌^◌, ◌==◌, nat_lt, Bool, fal
 use Rattle.std.specs.List.{list_any}
 use Rattle.std.specs.Coded.{Coded, code_by, coded×, coded_list, coded_option, coded_ℕ}
 use Rattle.cg_io.specs.declared.calls.Calls.{Calls}
-use Rattle.cg_io.specs.Causes.{raised}
+use Rattle.cg_base.specs.Counts.{raised}
 
 -- no call was made yet, and those with these numbers will fail
 abbrev pub no_calls : List ℕ → Calls

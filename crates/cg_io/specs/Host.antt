@@ -7,7 +7,7 @@ use Rattle.cg_io.specs.declared.files.FileFault.TheVariants as file
 use Rattle.cg_io.specs.declared.files.WriteFault.{WriteFault}
 use Rattle.cg_io.specs.declared.files.WriteFault.TheVariants as write
 use Rattle.cg_io.specs.declared.host.HostSink.{HostSink}
-use Rattle.cg_io.specs.Causes.{raised}
+use Rattle.cg_base.specs.Counts.{raised}
 
 -- how often a sink of the host has failed
 abbrev pub faults_of_sink : {W : Type 0} → HostSink W → ℕ

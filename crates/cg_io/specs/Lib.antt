@@ -1,4 +1,3 @@
-pub mod Causes
 pub mod Asking
 pub mod Held
 pub mod Calls

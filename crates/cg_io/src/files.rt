@@ -1,6 +1,6 @@
 ghost use Rattle.std.specs.Prelude.{◌≡◌, ◌⊎◌, ◌≤◌, ℕ, List, [], ◌∷◌, Option, length, is_some, IfOk, OnOk, OnErr, IsErrOf};
 ghost use Rattle.cg_io.specs.Asking.{Asking};
-ghost use Rattle.cg_io.specs.Causes.{Rose};
+ghost use Rattle.cg_base.specs.Counts.{Rose};
 ghost use Rattle.cg_io.specs.Held.{Held, HasBytes, Lacks, HasMore, written, KeepsOthers, appended, AppendsFront};
 
 use cg_base::{NoMemory, Text};

@@ -42,7 +42,7 @@ fn unless(wanted: Flaw, holds: bool, name: &[u8]) -> Option<&[u8]>
 }
 
 /// The symbol that stands first.
-fn first_symbol(forms: &[Form]) -> Option<&Text>
+pub fn first_symbol(forms: &[Form]) -> Option<&Text>
     ensures { option_copied result ≡ first_symbol forms.now }
 {
     match forms.first() {
@@ -106,7 +106,7 @@ fn has_values(arm: &[Form]) -> bool
 }
 
 /// Whether an arm is headed by `else`.
-fn is_else(arm: &[Form]) -> bool
+pub fn is_else(arm: &[Form]) -> bool
     ensures { result ≡ is_else arm.now }
 {
     match first_symbol(arm) {
@@ -133,7 +133,7 @@ fn calls_another(name: &[u8], operands: &[Form]) -> bool
 }
 
 /// What stands behind a mode, if there is one.
-fn behind_mode(forms: &[Form]) -> &[Form]
+pub fn behind_mode(forms: &[Form]) -> &[Form]
     ensures { result.now ≡ behind_mode forms.now }
 {
     match first_symbol(forms) {

@@ -7,3 +7,4 @@ mod faults;
 mod functions;
 
 pub use check::{check_rtl, first_left_out_in, first_wrong_in};
+pub use faults::{behind_mode, first_symbol, is_else};

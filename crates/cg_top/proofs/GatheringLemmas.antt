@@ -4,7 +4,7 @@ use Rattle.cg_base.specs.declared.form.Top.{Top}
 use Rattle.cg_base.specs.declared.form.Forms.{Forms}
 use Rattle.cg_base.specs.declared.refusal.Refusal.{Refusal}
 use Rattle.cg_base.specs.Reading.{Reads, IsFault}
-use Rattle.cg_io.specs.Causes.{Rose}
+use Rattle.cg_base.specs.Counts.{Rose}
 use Rattle.cg_io.specs.Held.{Held}
 use Rattle.cg_top.specs.declared.gathering.Fetched.{Fetched}
 use Rattle.cg_top.specs.declared.gathering.Fetched.TheVariants.{Read, Refused, Unread}

@@ -1,5 +1,5 @@
 ghost use Rattle.std.specs.Prelude.{◌≡◌, ◌≤◌, Some, IfOk};
-ghost use Rattle.cg_io.specs.Causes.{Rose};
+ghost use Rattle.cg_base.specs.Counts.{Rose};
 ghost use Rattle.cg_io.specs.Held.{Held};
 ghost use Rattle.cg_top.specs.Fetching.{IsFetched, files_asked, HasAsked, HasAskedFront};
 ghost use Rattle.cg_top.specs.declared.gathering.Fetched.{Fetched as Given};

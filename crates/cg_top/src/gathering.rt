@@ -1,5 +1,5 @@
 ghost use Rattle.std.specs.Prelude.{◌≡◌, ◌⊎◌, ◌≤◌, ◌++◌, ◌∷◌, [], map, Some, IfOk, IfSome, IfNone, true};
-ghost use Rattle.cg_io.specs.Causes.{Rose};
+ghost use Rattle.cg_base.specs.Counts.{Rose};
 ghost use Rattle.cg_io.specs.Held.{Held, appended};
 ghost use Rattle.cg_top.specs.Fetching.{asking, AsksOn, AsksFront};
 ghost use Rattle.cg_top.specs.Gathering.{no_sources, may_include, too_many, placed, IsLacking, HasText, IsShortFormsAt, Opens, Gathers, ComesBehind};

@@ -1,5 +1,5 @@
 ghost use Rattle.std.specs.Prelude.{◌≡◌, ◌⊎◌, ◌≤◌, ◌≢◌, Some, None, OnOk, OnErr, IsErrOf, is_some, List as Listed};
-ghost use Rattle.cg_io.specs.Causes.{Rose};
+ghost use Rattle.cg_base.specs.Counts.{Rose};
 ghost use Rattle.cg_io.specs.Asking.{Asking};
 ghost use Rattle.cg_io.specs.Held.{Held, appended, AppendsFront};
 ghost use Rattle.cg_top.specs.Asking.{asked};

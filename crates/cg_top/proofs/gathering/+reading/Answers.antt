@@ -1,6 +1,6 @@
 use Rattle.std.proofs.Common.{rules, ◌≡◌, ◌++◌, ◌∷◌, [], length, true, false, Some, None, refl}
 use Rattle.cg_base.specs.Reading.{Reads, IsFault}
-use Rattle.cg_io.specs.Causes.{Rose}
+use Rattle.cg_base.specs.Counts.{Rose}
 use Rattle.cg_top.specs.Including.{is_short, parted}
 use Rattle.cg_top.specs.Gathering.{may_include, HasText}
 use Rattle.cg_top.proofs.GatheringLemmas.{rose_before, gathered_whole, gathered_short, gathered_file, gathered_another, opened_unread, opened_refused, opened_read}
