@@ -1,4 +1,4 @@
-ghost use Rattle.std.specs.Prelude.{◌≡◌, IfOk};
+ghost use Rattle.std.specs.Prelude.{◌≡◌, IfOk, map};
 ghost use Rattle.std.specs.Option.{option_copied, option_map};
 ghost use Rattle.cg_base.specs.Parts.{symbol_of};
 ghost use Rattle.cg_base.specs.Texts.{is_named as named_so, is_among as stands_among};
@@ -10,6 +10,7 @@ use cg_base::{Form, List, NoMemory, Text};
 use std::alloc::Global;
 
 /// A form as read: it has no quoted leaf.
+#[cycle(plain)]
 pub fn plain(alloc: Global, form: &Form) -> Result<Body, NoMemory>
     ensures { IfOk result (λ body. body ≡ seen.plain form.now) }
 {
@@ -18,37 +19,51 @@ pub fn plain(alloc: Global, form: &Form) -> Result<Body, NoMemory>
         Form::Symbol(text) => Ok(Body::Symbol(text.clone()?)),
         Form::Str(text) => Ok(Body::Str(text.clone()?)),
         Form::Flag(flag) => Ok(Body::Flag(*flag)),
-        Form::Items(items) => {
-            let mut bodies = List::new(alloc);
-            for item in items.as_slice() {
-                bodies.push(plain(alloc, item)?)?;
-            }
-            Ok(Body::Items(bodies))
-        }
+        Form::Items(items) => Ok(Body::Items(all_plain(alloc, items)?)),
     }
 }
 
+/// Each of some forms as read.
+#[cycle(plain)]
+fn all_plain(alloc: Global, items: &List<Form>) -> Result<List<Body>, NoMemory>
+    ensures { IfOk result (λ bodies. bodies ≡ map seen.plain items.now) }
+{
+    let mut bodies = List::new(alloc);
+    for item in items.as_slice() {
+        bodies.push(plain(alloc, item)?)?;
+    }
+    Ok(bodies)
+}
+
 /// A form as it is written, its quoted leaves as their content.
+#[cycle(written)]
 pub fn written(alloc: Global, body: &Body) -> Result<Value, NoMemory>
     ensures { IfOk result (λ value. value ≡ seen.written body.now) }
 {
     match body {
         Body::Quoted(value) => Ok(value.clone()?),
         Body::Number(number) => Ok(Value::number(*number)),
-        Body::Symbol(text) => Ok(Value::symbol(alloc, text.clone()?)?),
-        Body::Str(text) => Ok(Value::string(alloc, text.clone()?)?),
+        Body::Symbol(text) => Value::symbol(alloc, text.clone()?),
+        Body::Str(text) => Value::string(alloc, text.clone()?),
         Body::Flag(flag) => Ok(Value::flag(*flag)),
-        Body::Items(items) => {
-            let mut values = List::new(alloc);
-            for item in items.as_slice() {
-                values.push(written(alloc, item)?)?;
-            }
-            Ok(Value::list(alloc, values)?)
-        }
+        Body::Items(items) => Value::list(alloc, all_written(alloc, items)?),
     }
 }
 
+/// Each of some forms as it is written.
+#[cycle(written)]
+fn all_written(alloc: Global, items: &List<Body>) -> Result<List<Value>, NoMemory>
+    ensures { IfOk result (λ values. values ≡ map seen.written items.now) }
+{
+    let mut values = List::new(alloc);
+    for item in items.as_slice() {
+        values.push(written(alloc, item)?)?;
+    }
+    Ok(values)
+}
+
 /// A copy of a form with quoted leaves, which stay shared.
+#[cycle(copy)]
 pub fn copy(alloc: Global, body: &Body) -> Result<Body, NoMemory>
     ensures { IfOk result (λ new. new ≡ body.now) }
 {
@@ -58,14 +73,20 @@ pub fn copy(alloc: Global, body: &Body) -> Result<Body, NoMemory>
         Body::Symbol(text) => Ok(Body::Symbol(text.clone()?)),
         Body::Str(text) => Ok(Body::Str(text.clone()?)),
         Body::Flag(flag) => Ok(Body::Flag(*flag)),
-        Body::Items(items) => {
-            let mut copies = List::new(alloc);
-            for item in items.as_slice() {
-                copies.push(copy(alloc, item)?)?;
-            }
-            Ok(Body::Items(copies))
-        }
+        Body::Items(items) => Ok(Body::Items(copies(alloc, items)?)),
     }
+}
+
+/// A copy of each of some forms with quoted leaves.
+#[cycle(copy)]
+fn copies(alloc: Global, items: &List<Body>) -> Result<List<Body>, NoMemory>
+    ensures { IfOk result (λ new. new ≡ items.now) }
+{
+    let mut copies = List::new(alloc);
+    for item in items.as_slice() {
+        copies.push(copy(alloc, item)?)?;
+    }
+    Ok(copies)
 }
 
 /// Whether two forms are of the same kind with the same content.

@@ -3,5 +3,5 @@ use Rattle.cg_pmacro.specs.Shapes.{plain}
 use Rattle.cg_pmacro.proofs.shapes.+plain.Given as goal
 
 -- the forms so far
-abbrev pub invariant-loop-item : goal.invariant-loop-item
-invariant-loop-item l = l.bodies ≡ map plain (take l.item-index l.item-items)
+abbrev pub invariant-all_plain-loop-item : goal.invariant-all_plain-loop-item
+invariant-all_plain-loop-item l = l.bodies ≡ map plain (take l.item-index l.item-items)
