@@ -1,3 +1,14 @@
+pub mod Operators
+pub mod Placed
+pub mod Checked
+pub mod Values
 pub mod Pure
 pub mod Fields
 pub mod Matching
+pub mod Slots
+pub mod Covers
+pub mod Encoding
+pub mod Clashing
+pub mod Sound
+pub mod Asking
+pub mod Effects

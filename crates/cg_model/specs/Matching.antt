@@ -44,9 +44,9 @@ abbrev pub part_stands : Machine → List ℕ → Part → Bool
 part_stands m bytes (Constant field value) = elim (slice_get m.fields field) [ None ↦ true | Some f ↦ bits_at m f bytes == value ]
 part_stands m bytes (Slot s) = true
 
--- The assertion isn't 0. The pc counts as 0.
+-- The assertion isn't 0. It names neither the pc nor a field with a rule, so the pc doesn't matter and counts as 0.
 abbrev pub asserts : Machine → Insn → List ℕ → Bool
-asserts m i bytes = elim i.assertion [ None ↦ true | Some rule ↦ not (pure_value (around_fields m bytes 0) rule None == 0) ]
+asserts m i bytes = elim i.assertion [ None ↦ true | Some rule ↦ not (pure_value m (around_fields m bytes 0) rule None == 0) ]
 
 -- The bytes are long enough, hold each constant in its field, and meet the assertion.
 abbrev pub matches : Machine → Insn → List ℕ → Bool

@@ -2,7 +2,7 @@ use crate::Rtl;
 use cg_base::{List, Mode, Text};
 
 /// Some bits of an instruction (docs/LANGUAGE.md, "Fields").
-#[derive(Debug, Drop, Clone, PartialEq, Eq)]
+#[derive(Drop)]
 pub struct Field {
     /// Its name.
     pub name: Text,
@@ -23,7 +23,7 @@ pub struct Field {
 }
 
 /// A value that lies in several fields.
-#[derive(Debug, Drop, Clone, PartialEq, Eq)]
+#[derive(Drop)]
 pub struct Multi {
     /// Its name.
     pub name: Text,

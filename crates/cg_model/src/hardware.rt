@@ -17,7 +17,7 @@ pub enum HwKind {
 }
 
 /// A word of source, and the value that it stands for.
-#[derive(Debug, Drop, Clone, PartialEq, Eq)]
+#[derive(Drop)]
 pub struct NamedValue {
     /// The word as it was written.
     pub word: Text,
@@ -26,7 +26,7 @@ pub struct NamedValue {
 }
 
 /// The words by which the values of hardware are written.
-#[derive(Debug, Drop, Clone, PartialEq, Eq)]
+#[derive(Drop)]
 pub struct Keyword {
     /// Each word, in the order of the description.
     pub words: List<NamedValue>,
@@ -34,7 +34,7 @@ pub struct Keyword {
 
 /// A register, the memory, the pc, or the kind of a value that an instruction holds
 /// (docs/LANGUAGE.md, "Hardware").
-#[derive(Debug, Drop, Clone, PartialEq, Eq)]
+#[derive(Drop)]
 pub struct Hardware {
     /// Its name.
     pub name: Text,

@@ -19,7 +19,7 @@ pub enum Part {
 }
 
 /// A piece of a syntax.
-#[derive(Debug, Drop, Clone, PartialEq, Eq)]
+#[derive(Drop)]
 pub enum Piece {
     /// A text that stands in the source as it is.
     Literal(Text),
@@ -28,7 +28,7 @@ pub enum Piece {
 }
 
 /// An instruction (docs/LANGUAGE.md, "Instructions").
-#[derive(Debug, Drop, Clone, PartialEq, Eq)]
+#[derive(Drop)]
 pub struct Insn {
     /// Its name.
     pub name: Text,
@@ -56,7 +56,7 @@ pub enum Given {
 }
 
 /// A line of source that stands for an instruction with some of its slots given.
-#[derive(Debug, Drop, Clone, PartialEq, Eq)]
+#[derive(Drop)]
 pub struct MacroInsn {
     /// Its name.
     pub name: Text,

@@ -14,7 +14,7 @@ pub enum Alignment {
 
 /// A machine: all that a description says of one of its machines, with names as numbers
 /// (docs/LANGUAGE.md, "Machines").
-#[derive(Debug, Drop, Clone, PartialEq, Eq)]
+#[derive(Drop)]
 pub struct Machine {
     /// Its name.
     pub name: Text,

@@ -15,7 +15,7 @@ pub enum Source {
 
 /// What an instruction works on: hardware, and a value or index for it (docs/LANGUAGE.md,
 /// "Operands").
-#[derive(Debug, Drop, Clone, PartialEq, Eq)]
+#[derive(Drop)]
 pub struct Operand {
     /// Its name.
     pub name: Text,

@@ -81,7 +81,7 @@ pub enum Op {
 
 /// An RTL expression with its names as numbers. What `number` is, and which items stand where,
 /// goes by the operation (docs/LANGUAGE.md, "RTL").
-#[derive(Debug, Drop, PartialEq, Eq)]
+#[derive(Drop)]
 pub struct Rtl {
     /// What it does.
     pub op: Op,
