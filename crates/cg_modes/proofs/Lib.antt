@@ -1,0 +1,4 @@
+pub mod Scopes
+pub mod Laws
+pub mod Arms
+pub mod Rules

@@ -1,0 +1,4 @@
+pub mod Scope
+pub mod Carried
+pub mod Arms
+pub mod Delays

@@ -1,0 +1,96 @@
+ghost use Rattle.std.specs.Prelude.{◌≡◌};
+ghost use Rattle.cg_model.specs.Operators.{at_number, kind_of, unary_ops, binary_ops, ternary_ops};
+
+use cg_base::{BinaryOp, TernaryOp, UnaryOp};
+use cg_model::Kind;
+
+const UNARY: [UnaryOp; 4] = [UnaryOp::Neg, UnaryOp::Inv, UnaryOp::Not, UnaryOp::Abs];
+
+const TERNARY: [TernaryOp; 6] = [
+    TernaryOp::Addc,
+    TernaryOp::Subc,
+    TernaryOp::AddCflag,
+    TernaryOp::AddOflag,
+    TernaryOp::SubCflag,
+    TernaryOp::SubOflag,
+];
+
+const BINARY: [BinaryOp; 25] = [
+    BinaryOp::Add,
+    BinaryOp::Sub,
+    BinaryOp::Mul,
+    BinaryOp::Div,
+    BinaryOp::Udiv,
+    BinaryOp::Mod,
+    BinaryOp::Umod,
+    BinaryOp::And,
+    BinaryOp::Or,
+    BinaryOp::Xor,
+    BinaryOp::Sll,
+    BinaryOp::Srl,
+    BinaryOp::Sra,
+    BinaryOp::Rol,
+    BinaryOp::Ror,
+    BinaryOp::Eq,
+    BinaryOp::Ne,
+    BinaryOp::Lt,
+    BinaryOp::Le,
+    BinaryOp::Gt,
+    BinaryOp::Ge,
+    BinaryOp::Ltu,
+    BinaryOp::Leu,
+    BinaryOp::Gtu,
+    BinaryOp::Geu,
+];
+
+/// The element that a number names.
+pub(crate) fn at<T: Copy>(items: &[T], number: i64) -> Option<T>
+    ensures { result ≡ at_number items.now number }
+{
+    if number < 0 {
+        None
+    } else {
+        items.get(number as usize).copied()
+    }
+}
+
+pub(crate) fn unary(number: i64) -> Option<UnaryOp>
+    ensures { result ≡ at_number unary_ops number }
+{
+    at(&UNARY, number)
+}
+
+pub(crate) fn binary(number: i64) -> Option<BinaryOp>
+    ensures { result ≡ at_number binary_ops number }
+{
+    at(&BINARY, number)
+}
+
+pub(crate) fn ternary(number: i64) -> Option<TernaryOp>
+    ensures { result ≡ at_number ternary_ops number }
+{
+    at(&TERNARY, number)
+}
+
+/// Which kind an operation is of.
+#[tactic(auto, unfolding(cg_model::specs::Operators::kind_of))]
+pub(crate) fn kind(op: BinaryOp) -> Kind
+    ensures { result ≡ kind_of op }
+{
+    match op {
+        BinaryOp::Sll | BinaryOp::Srl | BinaryOp::Sra | BinaryOp::Rol | BinaryOp::Ror => {
+            Kind::Shift
+        }
+        BinaryOp::Eq
+        | BinaryOp::Ne
+        | BinaryOp::Lt
+        | BinaryOp::Le
+        | BinaryOp::Gt
+        | BinaryOp::Ge
+        | BinaryOp::Ltu
+        | BinaryOp::Leu
+        | BinaryOp::Gtu
+        | BinaryOp::Geu => Kind::Comparison,
+        _ => Kind::Arithmetic,
+    }
+}

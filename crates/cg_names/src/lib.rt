@@ -1,0 +1,15 @@
+//! What the names of RTL stand for: an expression as it is written becomes one whose names are numbers
+//! (docs/LANGUAGE.md, "Names in expressions").
+#![tactic(auto)]
+
+mod around;
+mod build;
+mod function;
+mod missing;
+mod names;
+mod resolver;
+mod scope;
+mod words;
+
+pub use resolver::resolve;
+pub use scope::{EnumValue, Rule, Scope};
