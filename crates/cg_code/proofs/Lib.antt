@@ -1,0 +1,12 @@
+pub mod Soundness
+pub mod Ends
+pub mod Around
+pub mod Matched
+pub mod Held
+pub mod Extracted
+pub mod Holding
+pub mod Words
+pub mod Settings
+pub mod Filled
+pub mod Encoded
+pub mod Ranged

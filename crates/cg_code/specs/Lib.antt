@@ -1,0 +1,3 @@
+pub mod Coded
+pub mod Coding
+pub mod Evaluable
