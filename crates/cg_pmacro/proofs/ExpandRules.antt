@@ -3,11 +3,11 @@ use Rattle.std.proofs.Common.{◌≡◌, ℕ, Bool, ℤ, List, [], false, Ok, ap
 use Rattle.std.proofs.lemmas.Grind.{common_steps}
 use Rattle.cg_base.specs.declared.form.Form.{Form}
 use Rattle.cg_base.specs.declared.form.Form.TheVariants as form
-use Rattle.cg_pmacro.specs.declared.body.Body.{Body}
-use Rattle.cg_pmacro.specs.declared.body.Body.TheOpen.{Body-F}
-use Rattle.cg_pmacro.specs.declared.body.Body.TheViews.{outs-Quoted, outs-Number, outs-Symbol, outs-Str, outs-Flag, outs-Items}
-use Rattle.cg_pmacro.specs.declared.body.Body.TheVariants.{Quoted, Number, Symbol, Str, Flag, Items}
-use Rattle.cg_pmacro.specs.declared.body.Macro.{Macro}
+use Rattle.cg_builtin.specs.declared.body.Body.{Body}
+use Rattle.cg_builtin.specs.declared.body.Body.TheOpen.{Body-F}
+use Rattle.cg_builtin.specs.declared.body.Body.TheViews.{outs-Quoted, outs-Number, outs-Symbol, outs-Str, outs-Flag, outs-Items}
+use Rattle.cg_builtin.specs.declared.body.Body.TheVariants.{Quoted, Number, Symbol, Str, Flag, Items}
+use Rattle.cg_builtin.specs.declared.body.Macro.{Macro}
 use Rattle.cg_pmacro.specs.Expansion.{layer_kind, symbol_kind, list_kind, expanded}
 use Rattle.cg_pmacro.specs.Steps.{at_depth}
 use Rattle.cg_pmacro.proofs.Rules.{expanded_out, at_leaf, symbol_anywhere}

@@ -1,10 +1,4 @@
-pub mod Fronts
-pub mod Names
-pub mod Values
-pub mod Same
-pub mod Equality
 pub mod Rules
-pub mod Numbers
 pub mod TopRules
 pub mod ExpandRules
 pub mod LawLemmas

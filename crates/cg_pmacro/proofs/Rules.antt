@@ -6,25 +6,26 @@ use Rattle.cg_base.specs.declared.form.Form.{Form}
 use Rattle.cg_base.specs.declared.form.Form.TheVariants as form
 use Rattle.cg_base.specs.Texts.{is_among, same_text}
 use Rattle.cg_base.specs.Refusing.{Fault}
-use Rattle.cg_pmacro.specs.declared.fault.Halt.{Halt}
-use Rattle.cg_pmacro.specs.declared.fault.Halt.TheVariants.{Faulty, NoMemory}
-use Rattle.cg_pmacro.specs.declared.body.Body.{Body, out-Body}
-use Rattle.cg_pmacro.specs.declared.body.Body.TheViews.{outs-Quoted, outs-Number, outs-Symbol, outs-Str, outs-Flag, outs-Items}
-use Rattle.cg_pmacro.specs.declared.body.Body.TheVariants.{Quoted, Number, Symbol, Str, Flag, Items}
-use Rattle.cg_pmacro.specs.declared.body.Binding.{Binding}
-use Rattle.cg_pmacro.specs.declared.body.Macro.{Macro}
-use Rattle.cg_pmacro.specs.declared.built_in.BuiltIn.TheVariants as own
-use Rattle.cg_pmacro.specs.Outcome.{Answer, Paid, ◌>>=◌, onward, choose, each, fails, lift}
-use Rattle.cg_pmacro.specs.Reports.{Comes, Leaves, Halts, IsHalt}
+use Rattle.cg_builtin.specs.declared.fault.Halt.{Halt}
+use Rattle.cg_builtin.specs.declared.fault.Halt.TheVariants.{Faulty, NoMemory}
+use Rattle.cg_builtin.specs.declared.body.Body.{Body, out-Body}
+use Rattle.cg_builtin.specs.declared.body.Body.TheViews.{outs-Quoted, outs-Number, outs-Symbol, outs-Str, outs-Flag, outs-Items}
+use Rattle.cg_builtin.specs.declared.body.Body.TheVariants.{Quoted, Number, Symbol, Str, Flag, Items}
+use Rattle.cg_builtin.specs.declared.body.Binding.{Binding}
+use Rattle.cg_builtin.specs.declared.body.Macro.{Macro}
+use Rattle.cg_builtin.specs.declared.built_in.BuiltIn.TheVariants as own
+use Rattle.cg_builtin.specs.Outcome.{Answer, Paid, ◌>>=◌, onward, choose, each, fails, lift}
+use Rattle.cg_builtin.specs.Reports.{Comes, Leaves, Halts, IsHalt}
 use Rattle.cg_pmacro.specs.Expansion as meant
 use Rattle.cg_pmacro.specs.Steps as steps
 use Rattle.std.proofs.lemmas.Bool.Decides.{nat_tests}
-use Rattle.cg_pmacro.specs.Steps.{over, over_checked, at_depth, affordable, call_built_in, hiding}
-use Rattle.cg_pmacro.specs.declared.built_in.BuiltIn.{BuiltIn}
-use Rattle.cg_pmacro.specs.Shapes.{head_name, macro_named}
-use Rattle.cg_pmacro.specs.BuiltIns.{name_of, misfit, iota_of}
+use Rattle.cg_builtin.specs.Manners.{affordable}
+use Rattle.cg_pmacro.specs.Steps.{over, over_checked, at_depth, call_built_in, hiding}
+use Rattle.cg_builtin.specs.declared.built_in.BuiltIn.{BuiltIn}
+use Rattle.cg_builtin.specs.Shapes.{head_name, macro_named}
+use Rattle.cg_builtin.specs.BuiltIns.{name_of, misfit, iota_of}
 use Rattle.cg_pmacro.specs.Replacing.{Table, without, replaced_to, replaced_in, looked_up, elements_replaced}
-use Rattle.cg_pmacro.proofs.Fronts.{in_front, none_in_front, one_in_front, more_in_front}
+use Rattle.cg_builtin.proofs.Fronts.{in_front, none_in_front, one_in_front, more_in_front}
 use Rattle.cg_pmacro.specs.Expansion.{Expander, Kind, too_deep, comes_to, itself, macro_symbol, symbol_kind, kind_of, without_arguments, own_called, expanded, charge, charged, call_of, row, results}
 
 -- what becomes of a list, so many lists inwards

@@ -5,19 +5,19 @@ use Rattle.std.specs.List.{list_all, list_any, range_with_len}
 use Rattle.cg_base.specs.declared.form.Form.{Form}
 use Rattle.cg_base.specs.declared.form.Form.TheVariants as form
 use Rattle.cg_base.specs.Texts.{is_named}
-use Rattle.cg_pmacro.specs.declared.body.Body.{Body, out-Body}
-use Rattle.cg_pmacro.specs.declared.body.Body.TheOpen as body
-use Rattle.cg_pmacro.specs.declared.body.Body.TheOpen.{Body-F}
-use Rattle.cg_pmacro.specs.declared.body.Body.TheVariants.{Quoted, Items}
-use Rattle.cg_pmacro.specs.declared.body.Macro.{Macro}
-use Rattle.cg_pmacro.specs.declared.body.Binding.{Binding}
-use Rattle.cg_pmacro.specs.declared.built_in.BuiltIn.{BuiltIn}
-use Rattle.cg_pmacro.specs.declared.built_in.BuiltIn.TheVariants as own
-use Rattle.cg_pmacro.specs.Outcome.{Answer, Paid, ◌>>=◌, pure, fails, lift, each, each_joined, choose}
-use Rattle.cg_pmacro.specs.Sizes.{nodes, lists}
+use Rattle.cg_builtin.specs.declared.body.Body.{Body, out-Body}
+use Rattle.cg_builtin.specs.declared.body.Body.TheOpen as body
+use Rattle.cg_builtin.specs.declared.body.Body.TheOpen.{Body-F}
+use Rattle.cg_builtin.specs.declared.body.Body.TheVariants.{Quoted, Items}
+use Rattle.cg_builtin.specs.declared.body.Macro.{Macro}
+use Rattle.cg_builtin.specs.declared.body.Binding.{Binding}
+use Rattle.cg_builtin.specs.declared.built_in.BuiltIn.{BuiltIn}
+use Rattle.cg_builtin.specs.declared.built_in.BuiltIn.TheVariants as own
+use Rattle.cg_builtin.specs.Outcome.{Answer, Paid, ◌>>=◌, pure, fails, lift, each, each_joined, choose}
+use Rattle.cg_builtin.specs.Sizes.{nodes, lists}
 use Rattle.cg_base.specs.Parts.{elements_of}
-use Rattle.cg_pmacro.specs.Shapes.{same_form, written, called, head_name, own_symbol, elements, is_list, pmacro_form, pmacro_head, pair_of, binding, formal_names, macro_named, begins_with_dot}
-use Rattle.cg_pmacro.specs.BuiltIns.{name_of, built_in, is_lazy, miscounted, misfit, is_false, iota_of, ordinary}
+use Rattle.cg_builtin.specs.Shapes.{same_form, written, called, head_name, own_symbol, elements, is_list, pmacro_form, pmacro_head, pair_of, binding, formal_names, macro_named, begins_with_dot}
+use Rattle.cg_builtin.specs.BuiltIns.{name_of, built_in, is_lazy, miscounted, misfit, is_false, iota_of, ordinary}
 use Rattle.cg_pmacro.specs.Replacing.{Table, replaced, without}
 
 -- How a form expands: the innermost macro or built-in macro around it, and whether it is an argument of `.splice`.

@@ -2,14 +2,14 @@
 use Rattle.std.specs.Prelude.{ℕ, zero, suc, not, List, [], ◌∷◌, map, Option, None, codes, if◌then◌else◌}
 use Rattle.std.specs.List.{find, filter, filter_map}
 use Rattle.cg_base.specs.Texts.{is_among, is_named, same_text}
-use Rattle.cg_pmacro.specs.declared.body.Body.{Body, out-Body}
-use Rattle.cg_pmacro.specs.declared.body.Body.TheOpen as body
-use Rattle.cg_pmacro.specs.declared.body.Body.TheOpen.{Body-F}
-use Rattle.cg_pmacro.specs.declared.body.Body.TheVariants.{Quoted, Symbol, Items}
-use Rattle.cg_pmacro.specs.declared.body.Binding.{Binding}
-use Rattle.cg_pmacro.specs.Outcome.{choose}
-use Rattle.cg_pmacro.specs.Sizes.{levels}
-use Rattle.cg_pmacro.specs.Shapes.{head_name, own_symbol, first_symbol, elements}
+use Rattle.cg_builtin.specs.declared.body.Body.{Body, out-Body}
+use Rattle.cg_builtin.specs.declared.body.Body.TheOpen as body
+use Rattle.cg_builtin.specs.declared.body.Body.TheOpen.{Body-F}
+use Rattle.cg_builtin.specs.declared.body.Body.TheVariants.{Quoted, Symbol, Items}
+use Rattle.cg_builtin.specs.declared.body.Binding.{Binding}
+use Rattle.cg_builtin.specs.Outcome.{choose}
+use Rattle.cg_builtin.specs.Sizes.{levels}
+use Rattle.cg_builtin.specs.Shapes.{head_name, own_symbol, first_symbol, elements}
 
 -- each name of a table, and the form that stands for it
 abbrev pub Table : Type 0

@@ -7,22 +7,22 @@ use Rattle.cg_base.specs.declared.form.Top.{Top}
 use Rattle.cg_base.specs.declared.refusal.Stop.{Stop}
 use Rattle.cg_base.specs.Answering.{Stops}
 use Rattle.cg_base.specs.declared.refusal.Refusal.{Refusal}
-use Rattle.cg_pmacro.specs.declared.body.Body.{Body}
-use Rattle.cg_pmacro.specs.declared.body.Macro.{Macro}
-use Rattle.cg_pmacro.specs.declared.built_in.BuiltIn.{BuiltIn}
-use Rattle.cg_pmacro.specs.declared.built_in.BuiltIn.TheVariants as own
-use Rattle.cg_pmacro.specs.declared.built_in.Manner.{Manner}
-use Rattle.cg_pmacro.specs.declared.built_in.Manner.TheVariants as way
+use Rattle.cg_builtin.specs.declared.body.Body.{Body}
+use Rattle.cg_builtin.specs.declared.body.Macro.{Macro}
+use Rattle.cg_builtin.specs.declared.built_in.BuiltIn.{BuiltIn}
+use Rattle.cg_builtin.specs.declared.built_in.BuiltIn.TheVariants as own
+use Rattle.cg_builtin.specs.declared.built_in.Manner.{Manner}
+use Rattle.cg_builtin.specs.declared.built_in.Manner.TheVariants as way
 use Rattle.cg_base.specs.Refusing.{Fault, refusal_at}
-use Rattle.cg_pmacro.specs.declared.fault.Halt.{Halt}
-use Rattle.cg_pmacro.specs.declared.fault.Halt.TheVariants.{Faulty, NoMemory}
-use Rattle.cg_pmacro.specs.Outcome.{Answer, Paid, Run, ◌>>=◌, pure, fails, lift, each}
-use Rattle.cg_pmacro.specs.Reports.{Halts}
-use Rattle.cg_pmacro.specs.Sizes.{nodes}
-use Rattle.cg_pmacro.specs.Shapes.{binding}
-use Rattle.cg_pmacro.specs.BuiltIns.{name_of, miscounted, misfit, iota_of, ordinary}
+use Rattle.cg_builtin.specs.declared.fault.Halt.{Halt}
+use Rattle.cg_builtin.specs.declared.fault.Halt.TheVariants.{Faulty, NoMemory}
+use Rattle.cg_builtin.specs.Outcome.{Answer, Paid, Run, ◌>>=◌, pure, fails, lift, each}
+use Rattle.cg_builtin.specs.Reports.{Halts}
+use Rattle.cg_builtin.specs.Shapes.{binding}
+use Rattle.cg_builtin.specs.BuiltIns.{name_of, miscounted, misfit, iota_of, ordinary}
 use Rattle.cg_pmacro.specs.Replacing.{Table, Replacer, without, side_by_side, in_order}
 use Rattle.cg_pmacro.specs.Expansion.{Expander, Kind, too_deep, comes_to, expanded, chosen, take_if, take_cond, take_case, let_binding, let_in_order, let_bindings, let_body, stray_pmacro, is_callable, are_lists, results, call_of, elements_or_none, m_and_lists, spliced_list}
+use Rattle.cg_builtin.specs.Manners.{affordable, manner, is_for_each, is_apply}
 use Rattle.cg_pmacro.specs.Splitting.{split_to, nothing}
 use Rattle.cg_pmacro.specs.Tops.{State, state, in_place, top_to, no_forms}
 
@@ -56,39 +56,11 @@ abbrev pub further_split : ℕ → Form → Answer (List Form)
 further_split zero = nothing
 further_split (suc k) = split_to k
 
--- an answer whose cost, were it charged, is not more than what is left
-abbrev pub affordable : ℕ → Answer Form → Answer Form
-affordable left (Ok f) = if nat_lt left (1 + nodes f) then Err (203, codes "4000000") else Ok f
-affordable left (Err x) = Err x
-
--- how the code calls a built-in
-abbrev pub manner : BuiltIn → Manner
-manner own.If = way.Choice
-manner own.Cond = way.Choice
-manner own.Case = way.Choice
-manner own.Let = way.Let
-manner own.LetStar = way.LetStar
-manner own.Pmacro = way.Pmacro
-manner own.Map = way.Over
-manner own.ForEach = way.Over
-manner own.Apply = way.Over
-manner own.Splice = way.Splice
-manner own.Iota = way.Iota
-manner _ = way.Ordinary
-
 -- what `.if`, `.cond` and `.case` take
 abbrev pub take : Expander → BuiltIn → List Body → Paid (Option Body)
 take within own.If args = take_if within args
 take within own.Cond args = take_cond within args
 take within _ args = take_case within args
-
-abbrev pub is_for_each : BuiltIn → Bool
-is_for_each own.ForEach = true
-is_for_each _ = false
-
-abbrev pub is_apply : BuiltIn → Bool
-is_apply own.Apply = true
-is_apply _ = false
 
 -- what stands in front of the results: the symbol `begin`, where they are to be top forms
 abbrev pub beginning : BuiltIn → List Form

@@ -1,10 +1,10 @@
 ghost use Rattle.std.specs.Prelude.{◌≡◌, false, [], drop, None, IfOk};
 ghost use Rattle.std.specs.Option.{option_map};
 ghost use Rattle.cg_base.specs.declared.form.Form.TheVariants.{Symbol, Str};
-ghost use Rattle.cg_pmacro.specs.Outcome.{each as each_of};
-ghost use Rattle.cg_pmacro.specs.Reports.{Leaves};
+ghost use Rattle.cg_builtin.specs.Outcome.{each as each_of};
+ghost use Rattle.cg_builtin.specs.Reports.{Leaves};
 ghost use Rattle.cg_pmacro.specs.Steps as steps;
-ghost use Rattle.cg_pmacro.specs.Shapes as seen;
+ghost use Rattle.cg_builtin.specs.Shapes as seen;
 ghost use Rattle.cg_pmacro.specs.Expansion as meant;
 
 mod choices;
@@ -13,13 +13,12 @@ mod macro_calls;
 mod mapping;
 mod own_calls;
 
-use crate::body::{Body, Macro};
-use crate::built_in::built_in;
-use crate::fault::{Halt, faulty};
-use crate::shapes::{begins_with_dot, called, macro_named, pmacro_form};
-use crate::sizes::charge;
-use crate::value::Value;
+use crate::charging::charge;
 use cg_base::{List, NoMemory, Text};
+use cg_builtin::{
+    Body, Halt, Macro, Value, begins_with_dot, built_in_of, called, faulty, macro_named,
+    pmacro_form,
+};
 use macro_calls::{call_named, call_pmacro};
 use own_calls::call_own;
 use std::alloc::Global;
@@ -169,7 +168,7 @@ fn expand_named(
         }
         return Ok(call_named(alloc, macros, depth - 1, name, formals, body, args, left)?);
     }
-    if let Some(of) = built_in(name) {
+    if let Some(of) = built_in_of(name) {
         if depth == 0 {
             return Err(faulty(alloc, 204, of.name()));
         }

@@ -1,19 +1,11 @@
 //! Expansion of macros: what the top forms of a description stand for.
 #![tactic(auto)]
 
-mod arguments;
-mod body;
-mod built_in;
-mod calls;
+mod charging;
 mod expander;
-mod fault;
 mod laws;
 mod replacing;
-mod shapes;
-mod sizes;
-mod texts;
 mod tops;
-mod value;
 
 pub use laws::{call_leaves, quoted_leaf_is_free, same_form_is_equality, unchanged_at_rest};
 pub use tops::{SHORT_FORMS, expand, short_forms};

@@ -2,12 +2,10 @@ ghost use Rattle.std.specs.Prelude.{◌≡◌, ◌++◌, [], ◌∷◌, map, Som
 ghost use Rattle.std.specs.Option.{option_copied};
 ghost use Rattle.cg_pmacro.specs.Replacing as meant;
 ghost use Rattle.cg_pmacro.specs.Steps.{hiding as hiding_of, bindings_replaced as bindings_in};
-ghost use Rattle.cg_pmacro.specs.Shapes.{head_name, first_symbol as first_symbol_of};
+ghost use Rattle.cg_builtin.specs.Shapes.{head_name, first_symbol as first_symbol_of};
 
-use crate::body::{Binding, Body};
-use crate::shapes::{called, copy, elements, is_among, is_named, own_symbol};
-use crate::sizes::levels;
 use cg_base::{List, NoMemory, Text};
+use cg_builtin::{Binding, Body, called, copy, elements, is_among, is_named, levels, own_symbol};
 use std::alloc::Global;
 
 /// The body with each name of the table replaced by a quoted leaf, but for the places where the

@@ -7,18 +7,18 @@ use Rattle.cg_io.specs.Held.{Held}
 use Rattle.cg_top.specs.declared.asking.Asked.{Asked}
 use Rattle.cg_top.specs.declared.asking.Command.{Command}
 use Rattle.cg_top.specs.declared.asking.Command.TheVariants.{Decode}
-use Rattle.cg_top.specs.declared.gathering.Fetched.{Fetched}
-use Rattle.cg_top.specs.declared.gathering.Fetched.TheVariants.{Read, Refused, Unread}
-use Rattle.cg_top.specs.declared.machine.Machine.{Machine}
+use Rattle.cg_gather.specs.declared.gathering.Fetched.{Fetched}
+use Rattle.cg_gather.specs.declared.gathering.Fetched.TheVariants.{Read, Refused, Unread}
+use Rattle.cg_thin.specs.declared.machine.Machine.{Machine}
 use Rattle.cg_top.specs.declared.replies.Reply.{Reply}
 use Rattle.cg_top.specs.Asking.{asked}
-use Rattle.cg_top.specs.Gathering.{Opens, no_sources}
-use Rattle.cg_top.specs.Fetching.{IsUnreadable, askings, files_asked}
+use Rattle.cg_gather.specs.Gathering.{Opens, no_sources}
+use Rattle.cg_gather.specs.Fetching.{IsUnreadable, askings, files_asked}
 use Rattle.cg_top.specs.Loading.{loaded}
 use Rattle.cg_top.specs.Replies.{bad_words, performed, performed_on, reply_to}
 use Rattle.cg_top.specs.Answer.{IsReply, IsBad, Answer}
 use Rattle.cg_top.specs.Top.{IsUnread}
-use Rattle.cg_top.proofs.OneReading.{IsUnreadAt, opens_known, opens_told, one_opened}
+use Rattle.cg_gather.proofs.OneReading.{IsUnreadAt, opens_known, opens_told, one_opened}
 
 -- a file that can't be read makes the status 3
 unread_status : (it : Asked) (fetched : Fetched) → IsUnreadAt fetched → (reply_to it fetched).status ≡ 3

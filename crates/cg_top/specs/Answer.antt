@@ -3,10 +3,10 @@ use Rattle.std.specs.Prelude.{◌≡◌, ℕ, List, [], Option, MatchOption}
 use Rattle.cg_io.specs.Asking.{Asking}
 use Rattle.cg_io.specs.Held.{Held, appended}
 use Rattle.cg_top.specs.declared.asking.Asked.{Asked}
-use Rattle.cg_top.specs.declared.gathering.Fetched.{Fetched}
+use Rattle.cg_gather.specs.declared.gathering.Fetched.{Fetched}
 use Rattle.cg_top.specs.declared.replies.Reply.{Reply}
 use Rattle.cg_top.specs.Asking.{asked}
-use Rattle.cg_top.specs.Fetching.{IsFetched, askings, files_asked}
+use Rattle.cg_gather.specs.Fetching.{IsFetched, askings, files_asked}
 use Rattle.cg_top.specs.Replies.{bad_words, reply_to}
 
 -- The reply is that to what reading the description gives, and the description's files are what is read. A fault, where one

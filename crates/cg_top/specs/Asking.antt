@@ -2,7 +2,7 @@
 use Rattle.std.specs.Prelude.{ℕ, ◌+◌, ◌-◌, ◌*◌, ◌&&◌, nat_le, if◌then◌else◌, List, [], ◌∷◌, length, Option, Some, None, codes}
 use Rattle.cg_base.specs.Parts.{◌>>=◌}
 use Rattle.cg_base.specs.Texts.{same_text}
-use Rattle.cg_top.specs.Shape.{three}
+use Rattle.cg_gather.specs.Shape.{three}
 use Rattle.cg_top.specs.declared.asking.Asked.{Asked}
 use Rattle.cg_top.specs.declared.asking.Command.TheVariants.{Decode}
 

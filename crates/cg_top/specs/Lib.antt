@@ -1,13 +1,5 @@
-pub mod Shape
-pub mod Names
 pub mod Asking
-pub mod Fitting
-pub mod Thin
-pub mod Matching
 pub mod Loading
-pub mod Including
-pub mod Gathering
-pub mod Fetching
 pub mod Replies
 pub mod Answer
 pub mod Top

@@ -5,8 +5,8 @@ use Rattle.cg_base.specs.declared.refusal.Refusal.{Refusal}
 use Rattle.cg_base.specs.Texts.{same_text}
 use Rattle.cg_base.specs.Refusing.{refusal_at}
 use Rattle.cg_pmacro.specs.Tops.{expansion}
-use Rattle.cg_top.specs.declared.machine.Machine.{Machine}
-use Rattle.cg_top.specs.Thin.{thin}
+use Rattle.cg_thin.specs.declared.machine.Machine.{Machine}
+use Rattle.cg_thin.specs.Thin.{thin}
 
 -- The description isn't of the thin shape.
 abbrev pub not_thin : Refusal

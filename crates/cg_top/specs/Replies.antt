@@ -7,12 +7,12 @@ use Rattle.cg_base.specs.declared.refusal.Refusal.{Refusal}
 use Rattle.cg_top.specs.declared.asking.Asked.{Asked}
 use Rattle.cg_top.specs.declared.asking.Command.{Command}
 use Rattle.cg_top.specs.declared.asking.Command.TheVariants.{Decode}
-use Rattle.cg_top.specs.declared.gathering.Fetched.{Fetched}
-use Rattle.cg_top.specs.declared.gathering.Fetched.TheVariants.{Read, Refused, Unread}
-use Rattle.cg_top.specs.declared.machine.Machine.{Machine}
+use Rattle.cg_gather.specs.declared.gathering.Fetched.{Fetched}
+use Rattle.cg_gather.specs.declared.gathering.Fetched.TheVariants.{Read, Refused, Unread}
+use Rattle.cg_thin.specs.declared.machine.Machine.{Machine}
 use Rattle.cg_top.specs.declared.replies.Reply.{Reply}
 use Rattle.cg_top.specs.Loading.{loaded}
-use Rattle.cg_top.specs.Matching.{decoded}
+use Rattle.cg_thin.specs.Matching.{decoded}
 
 abbrev pub reply : ℕ → List (List ℕ) → Reply
 reply status lines = record { status = status; lines = lines }

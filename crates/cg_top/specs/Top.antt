@@ -4,7 +4,7 @@ use Rattle.cg_io.specs.Asking.{Asking}
 use Rattle.cg_io.specs.Held.{Held, appended}
 use Rattle.cg_top.specs.declared.replies.Reply.{Reply}
 use Rattle.cg_top.specs.Asking.{asked}
-use Rattle.cg_top.specs.Fetching.{IsUnreadable}
+use Rattle.cg_gather.specs.Fetching.{IsUnreadable}
 use Rattle.cg_top.specs.Answer.{Answer}
 
 -- One line behind the other.

@@ -1,8 +1,8 @@
 ghost use Rattle.std.specs.Prelude.{◌≡◌, ◌<◌, IfOk, IfSome};
 ghost use Rattle.cg_top.specs.Asking.{digit_of, bytes_of, hex_bytes, decode_asked, asked};
 
-use crate::shape::three;
 use cg_base::{NoMemory, Text};
+use cg_gather::three;
 use std::alloc::Global;
 
 /// What a machine is asked for.

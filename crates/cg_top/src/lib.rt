@@ -2,19 +2,9 @@
 #![tactic(auto)]
 
 mod asking;
-mod fetching;
-mod gathering;
-mod including;
 mod laws;
 mod loading;
-mod machine;
-mod matching;
-mod misfit;
-mod names;
-mod pending;
 mod replies;
-mod shape;
-mod thin;
 mod top;
 
 pub use laws::{one_answer, some_answer};

@@ -2,11 +2,9 @@ ghost use Rattle.std.specs.Prelude.{◌≡◌, IfOk};
 ghost use Rattle.cg_base.specs.Answering.{Gives};
 ghost use Rattle.cg_top.specs.Loading.{not_thin, no_machine, called, loaded};
 
-use crate::machine::Machine;
-use crate::misfit::Misfit;
-use crate::thin::thin_machine;
 use cg_base::{Fault, Forms, NoMemory, Refusal, Stop, Text, refusal_at};
 use cg_pmacro::expand;
+use cg_thin::{Machine, Misfit, thin_machine};
 use std::alloc::Global;
 
 /// `E301`: the forms aren't of the thin shape.

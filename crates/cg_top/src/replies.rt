@@ -7,13 +7,11 @@ ghost use Rattle.cg_top.specs.declared.replies.Reply.{Reply as Replied};
 ghost use Rattle.cg_top.specs.Answer.{Answer, IsReply, IsReplyTo};
 
 use crate::asking::{Asked, Command, ask_of};
-use crate::fetching::fetch;
-use crate::gathering::Fetched;
 use crate::loading::load;
-use crate::machine::Machine;
-use crate::matching::decode;
 use cg_base::{Forms, List, NoMemory, Refusal, Stop, Text, decimal};
+use cg_gather::{Fetched, fetch};
 use cg_io::Files;
+use cg_thin::{Machine, decode};
 use std::alloc::Global;
 
 /// What a command is answered: the lines to print, each with its end, and the status.

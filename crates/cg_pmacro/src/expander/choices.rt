@@ -1,18 +1,16 @@
 ghost use Rattle.std.specs.Prelude.{◌≡◌, IfOk};
 ghost use Rattle.std.specs.Option.{option_copied};
 ghost use Rattle.std.specs.List.{list_all};
-ghost use Rattle.cg_pmacro.specs.Reports.{Leaves, LeavesPart};
+ghost use Rattle.cg_builtin.specs.Reports.{Leaves, LeavesPart};
 ghost use Rattle.cg_pmacro.specs.Steps as steps;
 ghost use Rattle.cg_pmacro.specs.Expansion as meant;
 
 use super::expand;
-use crate::arguments::{is_false, miscounted, misfit};
-use crate::body::{Body, Macro};
-use crate::built_in::BuiltIn;
-use crate::fault::Halt;
-use crate::shapes::{elements, is_list, is_named, is_value, own_symbol, pair_of};
-use crate::value::Value;
 use cg_base::{List, NoMemory};
+use cg_builtin::{
+    Body, BuiltIn, Halt, Macro, Value, elements, is_false, is_list, is_named, is_value, miscounted,
+    misfit, own_symbol, pair_of,
+};
 use std::alloc::Global;
 
 /// `.if`, `.cond` and `.case`: what they take is expanded, and nothing is `()`.

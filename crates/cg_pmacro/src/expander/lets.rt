@@ -1,19 +1,16 @@
 ghost use Rattle.std.specs.Prelude.{◌≡◌, OnOk};
 ghost use Rattle.std.specs.Option.{option_map};
-ghost use Rattle.cg_pmacro.specs.Reports.{Leaves};
+ghost use Rattle.cg_builtin.specs.Reports.{Leaves};
 ghost use Rattle.cg_pmacro.specs.Steps as steps;
-ghost use Rattle.cg_pmacro.specs.Shapes as seen;
+ghost use Rattle.cg_builtin.specs.Shapes as seen;
 ghost use Rattle.cg_pmacro.specs.Expansion as meant;
 
 use super::expand;
-use crate::arguments::{miscounted, misfit};
-use crate::body::{Binding, Body, Macro};
-use crate::built_in::BuiltIn;
-use crate::fault::Halt;
 use crate::replacing::{replaced, without_name};
-use crate::shapes::{elements, own_symbol, pair_of};
-use crate::value::Value;
 use cg_base::{List, NoMemory, Text};
+use cg_builtin::{
+    Binding, Body, BuiltIn, Halt, Macro, Value, elements, miscounted, misfit, own_symbol, pair_of,
+};
 use std::alloc::Global;
 
 #[cycle(expansion)]

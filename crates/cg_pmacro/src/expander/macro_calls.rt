@@ -1,17 +1,14 @@
 ghost use Rattle.std.specs.Prelude.{◌≡◌, IfOk};
-ghost use Rattle.cg_pmacro.specs.Reports.{Leaves, ComesMacro};
+ghost use Rattle.cg_builtin.specs.Reports.{Leaves, ComesMacro};
 ghost use Rattle.cg_pmacro.specs.Expansion as meant;
 
 use super::{each, expand};
-use crate::arguments::{miscounted, misfit};
-use crate::body::{Binding, Body, Macro};
-use crate::built_in::BuiltIn;
-use crate::fault::{Halt, faulty};
+use crate::charging::charge;
 use crate::replacing::replaced;
-use crate::shapes::{elements, names_of};
-use crate::sizes::charge;
-use crate::value::Value;
 use cg_base::{List, NoMemory, Text};
+use cg_builtin::{
+    Binding, Body, BuiltIn, Halt, Macro, Value, elements, faulty, miscounted, misfit, names_of,
+};
 use std::alloc::Global;
 
 /// The call of a macro with arguments, with its cost.

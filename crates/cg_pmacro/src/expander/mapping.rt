@@ -1,20 +1,18 @@
 ghost use Rattle.std.specs.Prelude.{◌≡◌, slice_get, IfOk};
 ghost use Rattle.std.specs.Option.{option_copied};
 ghost use Rattle.std.specs.List.{list_all};
-ghost use Rattle.cg_pmacro.specs.Reports.{Comes, Leaves};
+ghost use Rattle.cg_builtin.specs.Reports.{Comes, Leaves};
 ghost use Rattle.cg_pmacro.specs.Steps as steps;
 ghost use Rattle.cg_pmacro.specs.Expansion as meant;
 
 use super::macro_calls::pmacro;
 use super::own_calls::each_for;
 use super::{expand, with_arguments};
-use crate::arguments::{form_elements, miscounted, misfit};
-use crate::body::{Body, Macro};
-use crate::built_in::{BuiltIn, built_in};
-use crate::fault::Halt;
-use crate::shapes::{called, copy, pmacro_form};
-use crate::value::Value;
 use cg_base::{List, NoMemory, Text};
+use cg_builtin::{
+    Body, BuiltIn, Halt, Macro, Value, built_in_of, called, copy, form_elements, miscounted,
+    misfit, pmacro_form,
+};
 use std::alloc::Global;
 
 /// `.map`, `.for-each` and `.apply`.
@@ -128,7 +126,7 @@ fn may_be_called(macros: &[Macro], name: &[u8]) -> bool
     if with_arguments(macros, name).is_some() {
         return true;
     }
-    match built_in(name) {
+    match built_in_of(name) {
         Some(of) => !of.is_lazy(),
         None => false,
     }

@@ -1,24 +1,21 @@
 ghost use Rattle.std.specs.Prelude.{◌≡◌, false, ◌++◌, OnOk};
-ghost use Rattle.cg_pmacro.specs.declared.built_in.Manner.TheVariants as way;
-ghost use Rattle.cg_pmacro.specs.Outcome.{each as each_of};
-ghost use Rattle.cg_pmacro.specs.Reports.{Comes, Leaves};
+ghost use Rattle.cg_builtin.specs.declared.built_in.Manner.TheVariants as way;
+ghost use Rattle.cg_builtin.specs.Outcome.{each as each_of};
+ghost use Rattle.cg_builtin.specs.Reports.{Comes, Leaves};
 ghost use Rattle.cg_pmacro.specs.Steps as steps;
-ghost use Rattle.cg_pmacro.specs.BuiltIns.{name_of};
+ghost use Rattle.cg_builtin.specs.BuiltIns.{name_of};
 ghost use Rattle.cg_pmacro.specs.Expansion as meant;
 
 use super::choices::call_choice;
 use super::lets::call_let;
 use super::mapping::call_over;
 use super::{each, expand};
-use crate::arguments::{form_elements, miscounted, misfit};
-use crate::body::{Body, Macro};
-use crate::built_in::{BuiltIn, Manner};
-use crate::calls::{iota, ordinary};
-use crate::fault::Halt;
-use crate::shapes::{elements, head_name, is_named};
-use crate::sizes::charge;
-use crate::value::Value;
+use crate::charging::charge;
 use cg_base::{List, NoMemory};
+use cg_builtin::{
+    Body, BuiltIn, Halt, Macro, Manner, Value, elements, form_elements, head_name, iota, is_named,
+    miscounted, misfit, ordinary,
+};
 use std::alloc::Global;
 
 /// The call of a built-in, with its cost.

@@ -1,6 +1,6 @@
 use Rattle.std.proofs.Common.{ℕ, List, false, subst}
-use Rattle.cg_pmacro.specs.Outcome.{each}
-use Rattle.cg_pmacro.specs.Reports.{Leaves}
+use Rattle.cg_builtin.specs.Outcome.{each}
+use Rattle.cg_builtin.specs.Reports.{Leaves}
 use Rattle.cg_pmacro.specs.Expansion.{expanded}
 use Rattle.cg_pmacro.proofs.expander.+expansion.Goals as goal
 

@@ -1,8 +1,8 @@
 use Rattle.std.proofs.Common.{◌≡◌, ◌+◌, ◌-◌, ◌*◌, false, drop, filter_map, if◌then◌else◌}
 use Rattle.std.specs.List.{range_with_len}
-use Rattle.cg_pmacro.specs.Outcome.{each, each_joined}
-use Rattle.cg_pmacro.specs.Shapes.{binding}
-use Rattle.cg_pmacro.proofs.Fronts.{in_front}
+use Rattle.cg_builtin.specs.Outcome.{each, each_joined}
+use Rattle.cg_builtin.specs.Shapes.{binding}
+use Rattle.cg_builtin.proofs.Fronts.{in_front}
 use Rattle.cg_pmacro.specs.Expansion.{expanded, first_arm, let_binding, let_in_order, spliced, results}
 use Rattle.cg_pmacro.specs.Steps.{beginning, bind}
 use Rattle.cg_pmacro.proofs.expander.+expansion.Given as goal

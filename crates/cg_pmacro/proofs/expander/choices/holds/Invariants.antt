@@ -1,6 +1,6 @@
 use Rattle.std.proofs.Common.{◌≡◌, drop}
 use Rattle.std.specs.List.{list_any}
-use Rattle.cg_pmacro.specs.Shapes.{same_form, written}
+use Rattle.cg_builtin.specs.Shapes.{same_form, written}
 use Rattle.cg_pmacro.proofs.expander.choices.holds.Given as goal
 
 -- the rest gives what the whole gives

@@ -1,5 +1,5 @@
 use Rattle.std.proofs.Common.{◌≡◌, ◌∷◌, map, take}
-use Rattle.cg_pmacro.specs.declared.body.Body.TheVariants.{Quoted}
+use Rattle.cg_builtin.specs.declared.body.Body.TheVariants.{Quoted}
 use Rattle.cg_pmacro.proofs.expander.mapping.call_on.Given as goal
 
 -- the arguments so far

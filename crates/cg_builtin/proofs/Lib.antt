@@ -1,0 +1,6 @@
+pub mod Fronts
+pub mod Names
+pub mod Values
+pub mod Same
+pub mod Equality
+pub mod Numbers

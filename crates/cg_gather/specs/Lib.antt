@@ -1,0 +1,4 @@
+pub mod Shape
+pub mod Including
+pub mod Gathering
+pub mod Fetching

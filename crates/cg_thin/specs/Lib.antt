@@ -1,0 +1,4 @@
+pub mod Names
+pub mod Fitting
+pub mod Thin
+pub mod Matching
