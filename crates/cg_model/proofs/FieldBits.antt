@@ -8,17 +8,17 @@ use Rattle.cg_base.specs.Operations.{wrapped}
 use Rattle.cg_model.specs.Fields.{signed_bits, extended}
 use Rattle.std.proofs.Math.Nat.{mod-eq_of_lt, pow-le-pow_right}
 use Rattle.cg_model.specs.declared.field.Field.{Field}
-use Rattle.cg_model.specs.Covers.{IsPlaced}
+use Rattle.cg_model.specs.Covers.{IsInWord}
 
 -- a field has 64 bits at most
-few_bits : (f : Field) → IsPlaced f → 2 ^ f.length ≤ 2 ^ 64
+few_bits : (f : Field) → IsInWord f → 2 ^ f.length ≤ 2 ^ 64
 few_bits f at = pow-le-pow_right {n = 2} (omega arith) {i = f.length} {j = 64} (omega (arith, at.within, at.few))
 
 -- the lowest bits of a number, by a power that was shifted
-pub low_bits : (f : Field) (n : ℕ) → IsPlaced f → n % (1 * 2 ^ f.length % 2 ^ 128) ≡ n % 2 ^ f.length
+pub low_bits : (f : Field) (n : ℕ) → IsInWord f → n % (1 * 2 ^ f.length % 2 ^ 128) ≡ n % 2 ^ f.length
 low_bits f n at = ap (λ p. n % p) (one_shl f.length 128 (omega (arith, at.within, at.few)))
 
-pub low_bits_fit : (f : Field) (n : ℕ) → IsPlaced f → n % 2 ^ f.length % 2 ^ 64 ≡ n % 2 ^ f.length
+pub low_bits_fit : (f : Field) (n : ℕ) → IsInWord f → n % 2 ^ f.length % 2 ^ 64 ≡ n % 2 ^ f.length
 low_bits_fit f n at = mod-eq_of_lt (omega (arith, mod_below n (2 ^ f.length) (pow_pos f.length), few_bits f at))
 
 pub low_bits_below : (f : Field) (n : ℕ) → n % 2 ^ f.length < 2 ^ f.length

@@ -94,6 +94,10 @@ abbrev pub is_number : Op → Bool
 is_number op.Number = true
 is_number _ = false
 
+abbrev pub is_arm : Op → Bool
+is_arm op.Arm = true
+is_arm _ = false
+
 abbrev pub is_none : Option Mode → Bool
 is_none None = true
 is_none (Some k) = false
@@ -396,7 +400,7 @@ abbrev pub checked_step : Machine → Rtl-F Checked → Checked
 checked_step m f = record {
   said = said_of f;
   asked = λ l. each_value l (take (unsigned_abs f.number) f.items);
-  front = λ l. all_but_last l (drop (unsigned_abs f.number) f.items);
+  front = λ l. if is_arm f.op then all_but_last l (drop (unsigned_abs f.number) f.items) else Err no_shape;
   delays = delays_step m f;
   verdict = verdict_of m f.op f.mode f.number f.items;
 }

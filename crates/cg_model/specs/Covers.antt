@@ -1,6 +1,6 @@
 -- Which bits of an instruction a field covers. An instruction has 16 bytes at most: they are seen as one number of 128 bits, the first
 -- byte the highest, so that bits are a mask.
-use Rattle.std.specs.Prelude.{◌≡◌, ℕ, ◌+◌, ◌-◌, ◌*◌, ◌/◌, ◌^◌, ◌≤◌, bit_or, List, [], ◌∷◌, ℤ, Option, Some, None, slice_get}
+use Rattle.std.specs.Prelude.{◌≡◌, ℕ, ◌+◌, ◌-◌, ◌*◌, ◌/◌, ◌^◌, ◌≤◌, bit_or, Bool, nat_le, if◌then◌else◌, List, [], ◌∷◌, ℤ, Option, Some, None, slice_get}
 use Rattle.cg_base.specs.declared.mode.Endian.{Endian}
 use Rattle.cg_base.specs.declared.mode.Endian.TheVariants.{Big}
 use Rattle.cg_base.specs.Bytes.{number_of, bytes_of}
@@ -16,7 +16,20 @@ use Rattle.cg_model.specs.declared.rtl.Rtl.{Rtl}
 use Rattle.cg_model.specs.declared.rtl.Rtl.TheOpen.{Rtl-F}
 use Rattle.cg_model.specs.declared.rtl.Rtl.TheFolds.{fold-Rtl}
 
--- A field has a bit at least, and lies within its word; the word has 1 to 8 whole bytes and lies within 16 bytes.
+-- A field has a bit at least, and lies within its word, which has 1 to 8 whole bytes.
+pub record IsInWord (f : Field) : Type 0 where
+  pub bytes : f.word_bits ≡ 8 * (f.word_bits / 8)
+  pub offset : f.word_offset ≡ 8 * (f.word_offset / 8)
+  pub some : 8 ≤ f.word_bits
+  pub few : f.word_bits ≤ 64
+  pub own : 1 ≤ f.length
+  pub within : f.shift + f.length ≤ f.word_bits
+
+-- The word lies within the 16 bytes that an instruction may have.
+abbrev pub is_near : Field → Bool
+is_near f = nat_le (f.word_offset + f.word_bits) 128
+
+-- A field that lies in such a word.
 pub record IsPlaced (f : Field) : Type 0 where
   pub bytes : f.word_bits ≡ 8 * (f.word_bits / 8)
   pub offset : f.word_offset ≡ 8 * (f.word_offset / 8)
@@ -26,8 +39,8 @@ pub record IsPlaced (f : Field) : Type 0 where
   pub own : 1 ≤ f.length
   pub within : f.shift + f.length ≤ f.word_bits
 
-pub record ArePlaced (m : Machine) : Type 0 where
-  pub each : (k : ℕ) (f : Field) → slice_get m.fields k ≡ Some f → IsPlaced f
+pub record AreInWords (m : Machine) : Type 0 where
+  pub each : (k : ℕ) (f : Field) → slice_get m.fields k ≡ Some f → IsInWord f
 
 -- How many bits stand behind a field's word.
 abbrev pub behind : Field → ℕ
@@ -66,8 +79,13 @@ abbrev pub covered_by_all : Machine → List Part → ℕ
 covered_by_all m [] = 0
 covered_by_all m (p ∷ ps) = bit_or (covered_by m p) (covered_by_all m ps)
 
+-- Those of a field that an expression names. One past the 16 bytes covers none of them.
+abbrev pub near_cover : Machine → Option Field → ℕ
+near_cover m None = 0
+near_cover m (Some f) = if is_near f then cover_of m f else 0
+
 abbrev pub own_bits : Machine → Op → ℤ → ℕ
-own_bits m FieldRef n = field_cover m (at_number m.fields n)
+own_bits m FieldRef n = near_cover m (at_number m.fields n)
 own_bits m _ n = 0
 
 abbrev pub all_bits : List ℕ → ℕ

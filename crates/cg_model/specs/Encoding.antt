@@ -4,6 +4,7 @@ use Rattle.cg_base.specs.declared.mode.Mode.{Mode}
 use Rattle.cg_base.specs.Bytes.{bytes_of}
 use Rattle.cg_base.specs.Modes.{bits_of}
 use Rattle.cg_base.specs.Operations.{converted}
+use Rattle.cg_model.specs.Covers.{is_near}
 use Rattle.cg_model.specs.Fields.{word_of, around_value}
 use Rattle.cg_model.specs.Matching.{asserts, length_of}
 use Rattle.cg_model.specs.Pure.{pure_value}
@@ -77,9 +78,13 @@ abbrev pub word_with : Field → ℕ → ℕ → ℕ
 word_with f n word = word / 2 ^ (f.shift + f.length) * 2 ^ (f.shift + f.length) + n * 2 ^ f.shift + word % 2 ^ f.shift
 
 -- Bytes in which a field's bits are n. All other bits stay.
-abbrev pub with_bits : Machine → Field → ℕ → List ℕ → List ℕ
-with_bits m f n bytes =
+abbrev pub with_word : Machine → Field → ℕ → List ℕ → List ℕ
+with_word m f n bytes =
     (take (f.word_offset / 8) bytes ++ bytes_of m.insn_endian (f.word_bits / 8) (word_with f n (word_of m f bytes))) ++ drop (f.word_offset / 8 + f.word_bits / 8) bytes
+
+-- A field past the 16 bytes that an instruction may have is not set.
+abbrev pub with_bits : Machine → Field → ℕ → List ℕ → List ℕ
+with_bits m f n bytes = if is_near f then with_word m f n bytes else bytes
 
 abbrev pub with_all : Machine → List Setting → List ℕ → List ℕ
 with_all m [] bytes = bytes

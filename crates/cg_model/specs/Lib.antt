@@ -12,3 +12,5 @@ pub mod Clashing
 pub mod Sound
 pub mod Asking
 pub mod Effects
+pub mod faults
+pub mod Formed

@@ -5,8 +5,8 @@ use Rattle.std.specs.List.{list_all}
 use Rattle.cg_base.specs.declared.mode.Mode.{Mode}
 use Rattle.cg_base.specs.Modes.{bits_of}
 use Rattle.cg_model.specs.Checked.{mode_of}
-use Rattle.cg_model.specs.Covers.{IsPlaced, covered_by, covered_by_all, asked_bits}
-use Rattle.cg_model.specs.Matching.{fields_of_parts}
+use Rattle.cg_model.specs.Covers.{IsInWord, covered_by, covered_by_all, asked_bits}
+use Rattle.cg_model.specs.Matching.{fields_of_parts, length_of}
 use Rattle.cg_model.specs.Operators.{at_number}
 use Rattle.cg_model.specs.Pure.{is_pure}
 use Rattle.cg_model.specs.Slots.{slots_of}
@@ -98,7 +98,7 @@ pub record IsRule (m : Machine) (own : Mode) (ok : Allowed) (rtl : Rtl) : Type 0
 
 -- A field has a bit at least and lies in its word, as its value does in its mode.
 pub record SoundField (m : Machine) (f : Field) : Type 0 where
-  pub placed : IsPlaced f
+  pub placed : IsInWord f
   pub fits : f.length ≤ bits_of f.mode
   pub encode : (rtl : Rtl) → f.encode ≡ Some rtl → IsRule m f.mode (of_value f.mode) rtl
   pub decode : (rtl : Rtl) → f.decode ≡ Some rtl → IsRule m f.mode (of_value f.mode) rtl
@@ -144,7 +144,9 @@ pub record IsAssertion (m : Machine) (i : Insn) (rtl : Rtl) : Type 0 where
   pub allowed : is_allowed (of_format m (fields_of_parts m i.parts)) rtl ≡ true
   pub few : count_ones (asked_bits m i) ≤ 8
 
+-- An instruction has 16 bytes at most.
 pub record SoundInsn (m : Machine) (i : Insn) : Type 0 where
+  pub short : length_of m i ≤ 16
   pub parts : AreApart m i.parts
   pub slots : length (slots_of m i.parts) ≤ 16
   pub assertion : (rtl : Rtl) → i.assertion ≡ Some rtl → IsAssertion m i rtl

@@ -1,5 +1,5 @@
 ghost use Rattle.std.specs.Prelude.{◌≡◌, ◌+◌, ◌/◌, ◌≤◌, ◌<◌, ◌^◌, length};
-ghost use Rattle.cg_model.specs.Covers.{IsPlaced};
+ghost use Rattle.cg_model.specs.Covers.{IsInWord};
 ghost use Rattle.cg_base.specs.Modes.{bits_of};
 ghost use Rattle.cg_model.specs.Fields as spec;
 
@@ -10,7 +10,7 @@ use cg_base::{bits, number_at, signed};
 /// "Fields").
 #[tactic(auto, using(crate::proofs::FieldBits::reading))]
 pub fn field_bits(machine: &Machine, field: &Field, bytes: &[u8]) -> u64
-    requires placed { IsPlaced field.now }
+    requires placed { IsInWord field.now }
     requires inside { field.now.word_offset / 8 + field.now.word_bits / 8 ≤ length bytes.now }
     ensures value { result ≡ spec.bits_at machine.now field.now bytes.now }
     ensures fits { result < 2 ^ field.now.length }

@@ -2,6 +2,7 @@
 #![tactic(auto)]
 
 mod bits;
+mod fault;
 mod field;
 mod hardware;
 mod insn;
@@ -13,6 +14,7 @@ mod outcome;
 mod rtl;
 
 pub use bits::{extended, field_bits};
+pub use fault::{MachineFault, Purpose, Said};
 pub use field::{Field, Multi};
 pub use hardware::{Hardware, HwKind, Keyword, NamedValue};
 pub use insn::{Clash, Given, Insn, MacroInsn, Part, Piece, Values};

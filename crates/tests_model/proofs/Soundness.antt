@@ -194,7 +194,7 @@ equals_asserts = record { gives = record { pure = simp folds; mode = Bi; moded =
 -- the fields
 nibble_sound : (name : List ℕ) (shift : ℕ) → shift ≤ 12 → SoundField tiny (nibble name shift)
 nibble_sound name shift le = record {
-  placed = record { bytes = refl; offset = refl; some = omega arith; few = omega arith; inside = omega arith; own = omega arith; within = omega (arith, le) };
+  placed = record { bytes = refl; offset = refl; some = omega arith; few = omega arith; own = omega arith; within = omega (arith, le) };
   fits = omega arith;
   encode = λ r is. given (λ x. IsRule tiny Usi (of_value Usi) x) None r tt is;
   decode = λ r is. given (λ x. IsRule tiny Usi (of_value Usi) x) None r tt is;
@@ -202,7 +202,7 @@ nibble_sound name shift le = record {
 
 displacement_sound : SoundField tiny displacement
 displacement_sound = record {
-  placed = record { bytes = refl; offset = refl; some = omega arith; few = omega arith; inside = omega arith; own = omega arith; within = omega arith };
+  placed = record { bytes = refl; offset = refl; some = omega arith; few = omega arith; own = omega arith; within = omega arith };
   fits = omega arith;
   encode = λ r is. given (λ x. IsRule tiny Si (of_value Si) x) (Some to_words) r to_words_rule is;
   decode = λ r is. given (λ x. IsRule tiny Si (of_value Si) x) (Some from_words) r from_words_rule is;
@@ -227,10 +227,10 @@ add_apart : AreApart tiny add_parts
 add_apart = ((refl, constant_fits (codes "f-op") 12 1 (omega arith)), refl, (refl, refl, (refl, refl, ((refl, constant_fits (codes "f-x") 0 0 (omega arith)), refl, tt))))
 
 add_sound : SoundInsn tiny add_below_15
-add_sound = record { parts = add_apart; slots = omega arith; assertion = λ r is. given (IsAssertion tiny add_below_15) (Some (compared 16)) r differs_asserts is }
+add_sound = record { short = omega arith; parts = add_apart; slots = omega arith; assertion = λ r is. given (IsAssertion tiny add_below_15) (Some (compared 16)) r differs_asserts is }
 
 twin_sound : SoundInsn tiny twin
-twin_sound = record { parts = add_apart; slots = omega arith; assertion = λ r is. given (IsAssertion tiny twin) (Some (compared 15)) r equals_asserts is }
+twin_sound = record { short = omega arith; parts = add_apart; slots = omega arith; assertion = λ r is. given (IsAssertion tiny twin) (Some (compared 15)) r equals_asserts is }
 
 all_fields : Each (SoundField tiny) tiny.fields
 all_fields = (nibble_sound (codes "f-op") 12 (omega arith), (nibble_sound (codes "f-rd") 8 (omega arith), (nibble_sound (codes "f-rs") 4 (omega arith), (nibble_sound (codes "f-x") 0 (omega arith), (displacement_sound, tt)))))

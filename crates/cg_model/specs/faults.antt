@@ -1,0 +1,17 @@
+pub mod Finding
+pub mod E304
+pub mod E306
+pub mod E308
+pub mod E309
+pub mod E310
+pub mod E311
+pub mod E312
+pub mod E313
+pub mod E314
+pub mod E315
+pub mod E316
+pub mod E317
+pub mod Judging
+pub mod Elements
+pub mod Refusing
+pub mod Accepted
