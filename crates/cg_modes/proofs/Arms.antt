@@ -7,7 +7,7 @@ use Rattle.std.proofs.lemmas.List.{get_or-drop, length-drop, drop_more}
 use Rattle.cg_base.specs.declared.Mode.{Mode}
 use Rattle.cg_base.specs.declared.Mode.TheVariants.{Void}
 use Rattle.cg_model.specs.Operators.{word_mode}
-use Rattle.cg_model.specs.Checked.{Checked, Locals, Verdict, checked, checked_step, verdict_of, and_then, meets, each_value, each_part, part_turn, all_but_last, last_verdict, last_loose, is_loose, taken_by, arm_choice, ends_with_else, fault, stated, judged_value, no_shape}
+use Rattle.cg_model.specs.Checked.{Checked, Locals, Verdict, checked, checked_step, verdict_of, and_then, meets, each_value, each_part, part_turn, all_but_last, last_verdict, last_loose, is_loose, is_arm, taken_by, arm_choice, ends_with_else, fault, stated, judged_value, no_shape}
 use Rattle.cg_model.specs.declared.rtl.Op.TheVariants.{Arm, Cond, Case, Join}
 use Rattle.cg_model.specs.declared.machine.Machine.{Machine}
 use Rattle.cg_model.specs.declared.rtl.Rtl.{Rtl, out-Rtl}
@@ -20,23 +20,28 @@ asked_out : (m : Machine) (r : Rtl) (l : Locals) → (checked m r).asked l ≡ e
 unfolding checked
 asked_out m r l = ap (λ c. c.asked l) (fold_out-Rtl Checked (checked_step m) r)
 
-front_out : (m : Machine) (r : Rtl) (l : Locals) → (checked m r).front l ≡ all_but_last l (drop (unsigned_abs (out-Rtl r).number) (map (checked m) (out-Rtl r).items))
+front_out : (m : Machine) (r : Rtl) (l : Locals) → (checked m r).front l ≡ (if is_arm (out-Rtl r).op then all_but_last l (drop (unsigned_abs (out-Rtl r).number) (map (checked m) (out-Rtl r).items)) else Err no_shape)
 unfolding checked
 front_out m r l = ap (λ c. c.front l) (fold_out-Rtl Checked (checked_step m) r)
 
 asked_at : (m : Machine) (r : Rtl) (l : Locals) → (checked m r).asked l ≡ each_value l (map (checked m) (take (min (unsigned_abs (out-Rtl r).number) (length (out-Rtl r).items)) (out-Rtl r).items))
 asked_at m r l = asked_out m r l ∙ rw (take_map (checked m) (unsigned_abs (out-Rtl r).number) (out-Rtl r).items, take_min (unsigned_abs (out-Rtl r).number) (out-Rtl r).items) refl
 
-front_at : (m : Machine) (r : Rtl) (l : Locals) → (checked m r).front l ≡ all_but_last l (map (checked m) (drop (min (unsigned_abs (out-Rtl r).number) (length (out-Rtl r).items)) (out-Rtl r).items))
-front_at m r l = front_out m r l ∙ rw (drop_map (checked m) (unsigned_abs (out-Rtl r).number) (out-Rtl r).items, drop_min (unsigned_abs (out-Rtl r).number) (out-Rtl r).items) refl
+pub front_arm : (m : Machine) (r : Rtl) (l : Locals) (c : ℕ) → c ≡ min (unsigned_abs (out-Rtl r).number) (length (out-Rtl r).items) → is_arm (out-Rtl r).op ≡ true → (checked m r).front l ≡ all_but_last l (map (checked m) (drop c (out-Rtl r).items))
+front_arm m r l c e arm =
+    front_out m r l ∙ ap (λ b. if b then all_but_last l (drop (unsigned_abs (out-Rtl r).number) (map (checked m) (out-Rtl r).items)) else Err no_shape) arm
+    ∙ rw (drop_map (checked m) (unsigned_abs (out-Rtl r).number) (out-Rtl r).items, drop_min (unsigned_abs (out-Rtl r).number) (out-Rtl r).items, ← e) refl
 
-pub before_tested : (m : Machine) (l : Locals) (r : Rtl) (c : ℕ) → c ≡ min (unsigned_abs (out-Rtl r).number) (length (out-Rtl r).items) → before m true l r ≡ and_then (each_value l (map (checked m) (take c (out-Rtl r).items))) (λ k. all_but_last l (map (checked m) (drop c (out-Rtl r).items)))
-unfolding before
-before_tested m l r c e = rw (asked_at m r l, front_at m r l, ← e) refl
+pub front_other : (m : Machine) (r : Rtl) (l : Locals) → is_arm (out-Rtl r).op ≡ false → (checked m r).front l ≡ Err no_shape
+front_other m r l other = front_out m r l ∙ ap (λ b. if b then all_but_last l (drop (unsigned_abs (out-Rtl r).number) (map (checked m) (out-Rtl r).items)) else Err no_shape) other
 
-pub before_plain : (m : Machine) (l : Locals) (r : Rtl) (c : ℕ) → c ≡ min (unsigned_abs (out-Rtl r).number) (length (out-Rtl r).items) → before m false l r ≡ all_but_last l (map (checked m) (drop c (out-Rtl r).items))
+pub before_tested : (m : Machine) (l : Locals) (r : Rtl) (c : ℕ) → c ≡ min (unsigned_abs (out-Rtl r).number) (length (out-Rtl r).items) → before m true l r ≡ and_then (each_value l (map (checked m) (take c (out-Rtl r).items))) (λ k. (checked m r).front l)
 unfolding before
-before_plain m l r c e = rw (front_at m r l, ← e) refl
+before_tested m l r c e = rw (asked_at m r l, ← e) refl
+
+pub before_plain : (m : Machine) (l : Locals) (r : Rtl) → before m false l r ≡ (checked m r).front l
+unfolding before
+before_plain m l r = refl
 
 -- The first expressions of an arm are its tests.
 test_next : (m : Machine) (l : Locals) (xs : List Rtl) (i c : ℕ) (d : Rtl) → i < c → c ≤ length xs → each_value l (map (checked m) (drop i (take c xs))) ≡ and_then (judged_value l (checked m (get_or xs i d))) (λ k. each_value l (map (checked m) (drop (suc i) (take c xs))))
@@ -276,7 +281,7 @@ part_more m l part xs i d h = ap (λ ys. each_part l part (map (checked m) ys)) 
 pub none_of_none : (n : ℕ) → n / 0 ≡ 0
 none_of_none n = div-zero n
 
-pub ruleset arm_rules = (before_tested, before_plain, test_more, but_last_end, but_last_more, arm_law, arm_empty, arm_turn_is, walked_more, walked_end, valueless_more, valueless_end, led_at, led_none, kept_at, chosen_written, chosen_led, armed_is, cond_law, case_law, join_law, filled_is, part_more)
+pub ruleset arm_rules = (front_arm, front_other, before_tested, before_plain, test_more, but_last_end, but_last_more, arm_law, arm_empty, arm_turn_is, walked_more, walked_end, valueless_more, valueless_end, led_at, led_none, kept_at, chosen_written, chosen_led, armed_is, cond_law, case_law, join_law, filled_is, part_more)
 
 pub ruleset place_rules = (common_steps, place_more, last_loose_at, else_at)
 

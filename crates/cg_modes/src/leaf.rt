@@ -13,12 +13,7 @@ use cg_base::Mode;
 use cg_model::{Hardware, HwKind, Machine, Op, Rtl};
 
 /// The mode of a number: its own, else the wanted one, else the word's.
-pub(crate) fn number(
-    machine: &Machine,
-    written: Option<Mode>,
-    want: Option<Mode>,
-    number: i64,
-) -> Verdict
+pub fn number(machine: &Machine, written: Option<Mode>, want: Option<Mode>, number: i64) -> Verdict
     ensures { result ≡ spec.number_mode machine.now written want number }
 {
     fits(written.or(want).unwrap_or(word(machine)), number)
@@ -85,7 +80,7 @@ fn holds_cell(machine: &Machine, number: i64) -> bool
 }
 
 /// The mode of a field.
-pub(crate) fn field(machine: &Machine, number: i64) -> Verdict
+pub fn field(machine: &Machine, number: i64) -> Verdict
     ensures { result ≡ spec.field_mode machine.now number }
 {
     if number < 0 {
@@ -98,7 +93,7 @@ pub(crate) fn field(machine: &Machine, number: i64) -> Verdict
 }
 
 /// The mode of a multi field.
-pub(crate) fn multi(machine: &Machine, number: i64) -> Verdict
+pub fn multi(machine: &Machine, number: i64) -> Verdict
     ensures { result ≡ spec.multi_mode machine.now number }
 {
     if number < 0 {
@@ -138,7 +133,7 @@ pub(crate) fn is_place(place: &Rtl, machine: &Machine, scope: &Scope) -> bool
 
 /// Whether the last item of an expression is loose.
 #[tactic(auto, using(crate::proofs::Arms::place_rules))]
-pub(crate) fn last_loose(rtl: &Rtl) -> bool
+pub fn last_loose(rtl: &Rtl) -> bool
     ensures { result ≡ spec.last_loose (out-Rtl rtl.now).items }
 {
     let items = rtl.items.as_slice();
@@ -150,7 +145,7 @@ pub(crate) fn last_loose(rtl: &Rtl) -> bool
 
 /// The first arm from a place on whose value isn't loose, or how many arms there are.
 #[tactic(auto, using(crate::proofs::Arms::place_rules))]
-pub(crate) fn first_firm(items: &[Rtl], from: usize) -> usize
+pub fn first_firm(items: &[Rtl], from: usize) -> usize
     requires { from ≤ length items.now }
     ensures { result ≡ from + firm_place (drop from items.now) }
 {
@@ -162,8 +157,15 @@ pub(crate) fn first_firm(items: &[Rtl], from: usize) -> usize
     items.len()
 }
 
+/// Whether an expression is an arm.
+pub(crate) fn is_arm(rtl: &Rtl) -> bool
+    ensures { result ≡ spec.is_arm (out-Rtl rtl.now).op }
+{
+    matches!(rtl.op, Op::Arm)
+}
+
 /// Whether an arm has no tests.
-fn is_else(arm: &Rtl) -> bool
+pub fn is_else(arm: &Rtl) -> bool
     ensures { result ≡ (unsigned_abs (out-Rtl arm.now).number == 0) }
 {
     arm.number == 0
@@ -171,7 +173,7 @@ fn is_else(arm: &Rtl) -> bool
 
 /// Whether the arms from a place on end with one without tests.
 #[tactic(auto, using(crate::proofs::Arms::place_rules))]
-pub(crate) fn ends_with_else(items: &[Rtl], from: usize) -> bool
+pub fn ends_with_else(items: &[Rtl], from: usize) -> bool
     requires { from ≤ length items.now }
     ensures { result ≡ spec.ends_with_else (map out-Rtl (drop from items.now)) }
 {

@@ -1,12 +1,12 @@
 //! The mode of each expression, and its first fault where it has none.
 #![tactic(auto)]
 
-mod leaf;
+pub mod leaf;
 mod modes;
-mod named;
+pub mod named;
 mod placed;
 mod scope;
-mod verdict;
+pub mod verdict;
 
 pub use cg_model::ModeFault;
-pub use modes::mode_of;
+pub use modes::{mode_of, mode_within};

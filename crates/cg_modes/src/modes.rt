@@ -1,4 +1,4 @@
-ghost use Rattle.std.specs.Prelude.{◌≡◌, ◌≤◌, ◌<◌, ◌+◌, [], ◌∷◌, map, take, drop, length, get_or, Some, true};
+ghost use Rattle.std.specs.Prelude.{◌≡◌, ◌≤◌, ◌<◌, ◌+◌, [], ◌∷◌, map, take, drop, length, get_or, min, unsigned_abs, Some, true};
 ghost use Rattle.cg_model.specs.declared.rtl.Rtl.{out-Rtl};
 ghost use Rattle.cg_model.specs.Checked as spec;
 ghost use Rattle.cg_model.specs.Checked.{checked, mode_in};
@@ -30,6 +30,16 @@ pub fn mode_of(machine: &Machine, rtl: &Rtl, want: Option<Mode>) -> Result<Mode,
     } else {
         Err(fault(406))
     }
+}
+
+/// The mode of an expression outside of any `sequence`, or its first fault (docs/LANGUAGE.md,
+/// "Modes"), as `mode_of` gives it but for E406: how large it is, isn't asked. Each expression in
+/// it is judged once.
+#[tactic(auto, using(crate::proofs::Scopes::scope_rules))]
+pub fn mode_within(machine: &Machine, rtl: &Rtl, want: Option<Mode>) -> Result<Mode, ModeFault>
+    ensures { result ≡ mode_in machine.now rtl.now [] want }
+{
+    judge(rtl, machine, &Scope::Outside, want)
 }
 
 /// The mode of an expression among locals.
@@ -622,6 +632,20 @@ fn all_but_last(items: &[Rtl], machine: &Machine, scope: &Scope, from: usize) ->
     Ok(Mode::Void)
 }
 
+/// An arm's expressions but its tests and the last.
+#[cycle(modes)]
+#[tactic(auto, using(crate::proofs::Laws::mode_rules, crate::proofs::Arms::arm_rules))]
+fn front(arm: &Rtl, machine: &Machine, scope: &Scope, count: usize) -> Verdict
+    requires { count ≡ min (unsigned_abs (out-Rtl arm.now).number) (length (out-Rtl arm.now).items) }
+    ensures { result ≡ (checked machine.now arm.now).front (locals_of scope.now) }
+{
+    if leaf::is_arm(arm) {
+        all_but_last(arm.items.as_slice(), machine, scope, count)
+    } else {
+        Err(no_shape())
+    }
+}
+
 /// What is judged in front of an arm's value.
 #[cycle(modes)]
 #[tactic(auto, using(crate::proofs::Laws::mode_rules, crate::proofs::Arms::arm_rules))]
@@ -632,9 +656,9 @@ fn before(arm: &Rtl, machine: &Machine, scope: &Scope, tested: bool) -> Verdict
     let count = arm.number.unsigned_abs().min(items.len() as u64) as usize;
     if tested {
         first_tests(items, machine, scope, count)?;
-        all_but_last(items, machine, scope, count)
+        front(arm, machine, scope, count)
     } else {
-        all_but_last(items, machine, scope, count)
+        front(arm, machine, scope, count)
     }
 }
 

@@ -44,7 +44,7 @@ const BINARY: [BinaryOp; 25] = [
 ];
 
 /// The element that a number names.
-pub(crate) fn at<T: Copy>(items: &[T], number: i64) -> Option<T>
+pub fn at<T: Copy>(items: &[T], number: i64) -> Option<T>
     ensures { result ≡ at_number items.now number }
 {
     if number < 0 {
@@ -54,19 +54,22 @@ pub(crate) fn at<T: Copy>(items: &[T], number: i64) -> Option<T>
     }
 }
 
-pub(crate) fn unary(number: i64) -> Option<UnaryOp>
+/// The operation on one value of a number, counted in the order of docs/LANGUAGE.md, "Operations".
+pub fn unary(number: i64) -> Option<UnaryOp>
     ensures { result ≡ at_number unary_ops number }
 {
     at(&UNARY, number)
 }
 
-pub(crate) fn binary(number: i64) -> Option<BinaryOp>
+/// The operation on two values of a number, counted in the order of docs/LANGUAGE.md, "Operations".
+pub fn binary(number: i64) -> Option<BinaryOp>
     ensures { result ≡ at_number binary_ops number }
 {
     at(&BINARY, number)
 }
 
-pub(crate) fn ternary(number: i64) -> Option<TernaryOp>
+/// The operation on two values and a carry of a number, counted in the order of docs/LANGUAGE.md, "Operations".
+pub fn ternary(number: i64) -> Option<TernaryOp>
     ensures { result ≡ at_number ternary_ops number }
 {
     at(&TERNARY, number)
@@ -74,7 +77,7 @@ pub(crate) fn ternary(number: i64) -> Option<TernaryOp>
 
 /// Which kind an operation is of.
 #[tactic(auto, unfolding(cg_model::specs::Operators::kind_of))]
-pub(crate) fn kind(op: BinaryOp) -> Kind
+pub fn kind(op: BinaryOp) -> Kind
     ensures { result ≡ kind_of op }
 {
     match op {

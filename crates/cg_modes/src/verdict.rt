@@ -7,9 +7,11 @@ ghost use Rattle.cg_model.specs.Operators.{word_mode, address_mode};
 use cg_base::{Mode, bits};
 use cg_model::{Machine, ModeFault, Op, Rtl};
 
-pub(crate) type Verdict = Result<Mode, ModeFault>;
+/// A mode, or why there is none.
+pub type Verdict = Result<Mode, ModeFault>;
 
-pub(crate) fn fault(number: u16) -> ModeFault
+/// A fault that names no modes.
+pub fn fault(number: u16) -> ModeFault
     ensures { result ≡ checked.fault number }
 {
     ModeFault {
@@ -19,15 +21,15 @@ pub(crate) fn fault(number: u16) -> ModeFault
     }
 }
 
-/// A shape that the language doesn't have.
-pub(crate) fn no_shape() -> ModeFault
+/// The fault 304 of a shape that the language doesn't have.
+pub fn no_shape() -> ModeFault
     ensures { result ≡ checked.no_shape }
 {
     fault(304)
 }
 
 /// A mode where a value is needed.
-pub(crate) fn valued(mode: Mode) -> Verdict
+pub fn valued(mode: Mode) -> Verdict
     ensures { result ≡ checked.valued mode }
 {
     if bits(mode) == 0 {
@@ -38,7 +40,7 @@ pub(crate) fn valued(mode: Mode) -> Verdict
 }
 
 /// A mode that may be written where a value is meant, and none.
-pub(crate) fn given(written: Option<Mode>) -> Verdict
+pub fn given(written: Option<Mode>) -> Verdict
     ensures { result ≡ checked.given written }
 {
     match written {
@@ -54,7 +56,7 @@ pub(crate) fn given(written: Option<Mode>) -> Verdict
 }
 
 /// A mode that is written where one must be.
-pub(crate) fn stated(written: Option<Mode>) -> Verdict
+pub fn stated(written: Option<Mode>) -> Verdict
     ensures { result ≡ checked.stated written }
 {
     match written {
@@ -64,7 +66,7 @@ pub(crate) fn stated(written: Option<Mode>) -> Verdict
 }
 
 /// Two modes agree where they have as many bits.
-pub(crate) fn agrees(first: Mode, second: Mode) -> Verdict
+pub fn agrees(first: Mode, second: Mode) -> Verdict
     ensures { result ≡ checked.agrees first second }
 {
     if bits(first) == bits(second) {
@@ -81,7 +83,7 @@ pub(crate) fn agrees(first: Mode, second: Mode) -> Verdict
 }
 
 /// The value of an arm meets the mode that leads.
-pub(crate) fn meets(written: Option<Mode>, lead: Mode, own: Mode) -> Verdict
+pub fn meets(written: Option<Mode>, lead: Mode, own: Mode) -> Verdict
     ensures { result ≡ checked.meets written lead own }
 {
     match written {
@@ -97,7 +99,7 @@ pub(crate) fn meets(written: Option<Mode>, lead: Mode, own: Mode) -> Verdict
 }
 
 /// A part that is joined with others is of their mode.
-pub(crate) fn same_bits(part: Mode, own: Mode) -> Verdict
+pub fn same_bits(part: Mode, own: Mode) -> Verdict
     ensures { result ≡ checked.same_bits part own }
 {
     if bits(part) == bits(own) {
@@ -108,7 +110,7 @@ pub(crate) fn same_bits(part: Mode, own: Mode) -> Verdict
 }
 
 /// A number stands in a mode with a sign or without.
-pub(crate) fn fits(mode: Mode, number: i64) -> Verdict
+pub fn fits(mode: Mode, number: i64) -> Verdict
     ensures { result ≡ checked.fits mode number }
 {
     let fits = match mode {
@@ -123,7 +125,7 @@ pub(crate) fn fits(mode: Mode, number: i64) -> Verdict
 }
 
 /// The mode of the cpu's word.
-pub(crate) fn word(machine: &Machine) -> Mode
+pub fn word(machine: &Machine) -> Mode
     ensures { result ≡ word_mode machine.now.word_bits }
 {
     match machine.word_bits {
@@ -135,7 +137,7 @@ pub(crate) fn word(machine: &Machine) -> Mode
 }
 
 /// The mode of an address.
-pub(crate) fn address(machine: &Machine) -> Mode
+pub fn address(machine: &Machine) -> Mode
     ensures { result ≡ address_mode machine.now.word_bits }
 {
     match machine.word_bits {
@@ -147,7 +149,7 @@ pub(crate) fn address(machine: &Machine) -> Mode
 }
 
 /// A loose expression is a number without a mode of its own.
-pub(crate) fn is_loose(rtl: &Rtl) -> bool
+pub fn is_loose(rtl: &Rtl) -> bool
     ensures { result ≡ checked.is_loose (out-Rtl rtl.now) }
 {
     match (rtl.op, rtl.mode) {
@@ -157,14 +159,14 @@ pub(crate) fn is_loose(rtl: &Rtl) -> bool
 }
 
 /// The mode wanted of an expression of which any mode will do.
-pub(crate) fn any_mode(rtl: &Rtl) -> Option<Mode>
+pub fn any_mode(rtl: &Rtl) -> Option<Mode>
     ensures { result ≡ checked.any_mode (out-Rtl rtl.now) }
 {
     if is_loose(rtl) { Some(Mode::Usi) } else { None }
 }
 
 /// Wider, or as wide.
-pub(crate) fn wider(to: Mode, from: Mode) -> Verdict
+pub fn wider(to: Mode, from: Mode) -> Verdict
     ensures { result ≡ checked.wider to from }
 {
     if bits(from) <= bits(to) {
@@ -175,7 +177,7 @@ pub(crate) fn wider(to: Mode, from: Mode) -> Verdict
 }
 
 /// Narrower, or as wide.
-pub(crate) fn narrower(to: Mode, from: Mode) -> Verdict
+pub fn narrower(to: Mode, from: Mode) -> Verdict
     ensures { result ≡ checked.narrower to from }
 {
     wider(from, to)?;
@@ -195,7 +197,7 @@ pub(crate) fn memory(mode: Mode) -> Verdict
 
 /// How many values of one mode fill one of another.
 #[tactic(auto, using(crate::proofs::Arms::part_rules))]
-pub(crate) fn parts(to: Mode, part: Mode) -> u8
+pub fn parts(to: Mode, part: Mode) -> u8
     ensures { result ≡ bits_of to / bits_of part }
 {
     if bits(part) == 0 {
@@ -206,7 +208,7 @@ pub(crate) fn parts(to: Mode, part: Mode) -> u8
 
 /// The mode of one part of a value.
 #[tactic(auto, using(crate::proofs::Arms::part_rules))]
-pub(crate) fn part(rtl: &Rtl, to: Mode, from: Mode) -> Verdict
+pub fn part(rtl: &Rtl, to: Mode, from: Mode) -> Verdict
     ensures { result ≡ checked.part_mode (out-Rtl rtl.now).number to from }
 {
     if rtl.number >= 0 && rtl.number.unsigned_abs() < parts(from, to) as u64 {
