@@ -1,0 +1,7 @@
+use Rattle.std.proofs.Common.{◌≡◌, ◌+◌, drop}
+use Rattle.cg_model.specs.faults.E308.{nodes_of_all}
+use Rattle.cg_check.proofs.counting.nodes_of_all.Given as goal
+
+-- the nodes so far, with those that are left, are all
+abbrev pub invariant-loop-rtl : goal.invariant-loop-rtl
+invariant-loop-rtl l = l.count + nodes_of_all (drop l.rtl-index l.rtls) ≡ nodes_of_all l.rtls

@@ -1,0 +1,17 @@
+//! What is wrong with the expressions of a machine, but for their modes: each rule by itself, and the
+//! first fault that it finds (docs/REFUSALS.md, "Faults of a machine").
+#![tactic(auto)]
+
+mod cells;
+mod names;
+mod own;
+mod purity;
+mod unnamed;
+mod walk;
+
+pub use cells::{first_no_cell, first_no_register};
+pub use names::{Standing, first_stray};
+pub use own::{first_other_mode, first_outside};
+pub use purity::first_impure;
+pub use unnamed::first_unnamed;
+pub use walk::{NodeRule, first_in};
