@@ -1,0 +1,2 @@
+pub mod Evaluable
+pub mod Surroundings

@@ -1,0 +1,9 @@
+pub mod Laws
+pub mod Bounds
+pub mod Typings
+pub mod Carries
+pub mod Parts
+pub mod Branches
+pub mod Joins
+pub mod Choices
+pub mod Rooms

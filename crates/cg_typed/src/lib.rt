@@ -1,0 +1,9 @@
+//! Values of pure expressions together with their modes: what the operations give, and the laws
+//! that it is what the expressions mean.
+#![tactic(auto)]
+
+pub mod around;
+pub mod leads;
+pub mod leaf;
+pub mod typed;
+pub mod words;
