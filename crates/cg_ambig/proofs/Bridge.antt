@@ -1,5 +1,5 @@
 -- Instructions match bytes exactly where their patterns fit the whole.
-use Rattle.std.proofs.Common.{◌≡◌, ℕ, ◌+◌, ◌-◌, ◌*◌, ◌/◌, ◌%◌, ◌^◌, ◌<◌, ◌≤◌, min, bit_and, Bool, true, false, ◌&&◌, nat_le, List, length, take, slice_index, map, Option, Some, None, slice_get, sym, ap, ◌∙◌, refl, subst, inl, inr, arith, length-take}
+use Rattle.std.proofs.Common.{◌≡◌, ℕ, ◌+◌, ◌-◌, ◌*◌, ◌/◌, ◌%◌, ◌^◌, ◌<◌, ◌≤◌, min, bit_and, count_ones, Bool, true, false, ◌&&◌, nat_le, List, length, take, slice_index, map, Option, Some, None, slice_get, sym, ap, ◌∙◌, refl, subst, inl, inr, arith, length-take}
 use Rattle.std.specs.List.{list_all}
 use Rattle.std.specs.Int.{bit_at}
 use Rattle.std.proofs.lemmas.Nat.{pow_pos, div-add-mod', mod_below}
@@ -10,17 +10,17 @@ use Rattle.std.proofs.lemmas.Option.{slice_get-map}
 use Rattle.std.proofs.Math.Nat.{mod-eq_of_lt}
 use Rattle.cg_model.specs.declared.insn.Insn.{Insn}
 use Rattle.cg_model.specs.declared.machine.Machine.{Machine}
-use Rattle.cg_model.specs.Matching.{length_of, part_stands, asserts, IsMatch}
+use Rattle.cg_model.specs.Matching.{length_of, fields_of_parts, part_stands, asserts, IsMatch}
 use Rattle.cg_clash.specs.declared.pairs.Pattern.{Pattern}
 use Rattle.cg_clash.specs.Together.{Fits, Depends, Covers}
 use Rattle.cg_clash.specs.First.{AreSound, Clashes, NoClash, IsFirst}
 use Rattle.cg_view.specs.View.{whole, bytes_of_whole}
 use Rattle.cg_model.specs.Clashing.{AreBytes}
-use Rattle.cg_model.specs.Covers.{ArePlaced, asked_bits}
+use Rattle.cg_model.specs.Covers.{asked_bits}
 use Rattle.cg_view.specs.Constants.{parts_cover}
 use Rattle.cg_view.proofs.Standing.{parts_inside, parts_to_whole, parts_from_whole}
-use Rattle.cg_view.proofs.Within.{short, covered}
-use Rattle.cg_view.proofs.Naming.{asked_low}
+use Rattle.cg_view.proofs.Within.{last_within, covered}
+use Rattle.cg_view.proofs.Naming.{placed_among, asked_low}
 use Rattle.cg_view.proofs.Depending.{same_asserted}
 use Rattle.cg_ambig.specs.Patterns.{pattern, asserted_of, asserted, HasPatterns}
 use Rattle.cg_model.specs.Clashing.{length_at, longer, Clashes as ClashOn, NoClash as NoClashing, FirstClash as IsFirstClash}
@@ -42,10 +42,14 @@ asserted_at : (m : Machine) (k : ℕ) (i : Insn) (w : ℕ) → slice_get m.insns
 asserted_at m k i w e = ap (λ o. asserted_of m o (bytes_of_whole w)) e
 
 -- bytes and the bytes of their whole meet the same assertions
-same_through : (m : Machine) (i : Insn) (bytes : List ℕ) → ArePlaced m → AreBytes bytes → asserts m i (bytes_of_whole (whole bytes)) ≡ asserts m i bytes
-same_through m i bytes at h =
+depending : (m : Machine) (k : ℕ) (i : Insn) → HasPatterns m → slice_get m.insns k ≡ Some i → (xs ys : List ℕ) → AreBytes xs → AreBytes ys → bit_and (whole xs) (asked_bits m i) ≡ bit_and (whole ys) (asked_bits m i) → asserts m i xs ≡ asserts m i ys
+depending m k i sound is xs ys h l same =
+    same_asserted m i xs ys (placed_among m (fields_of_parts m i.parts) sound.placed (omega (arith, last_within m i sound.placed, sound.short k i is))) (sound.named k i is) h l same
+
+same_through : (m : Machine) (k : ℕ) (i : Insn) (bytes : List ℕ) → HasPatterns m → slice_get m.insns k ≡ Some i → AreBytes bytes → asserts m i (bytes_of_whole (whole bytes)) ≡ asserts m i bytes
+same_through m k i bytes sound is h =
     let back : whole (bytes_of_whole (whole bytes)) ≡ whole bytes = whole_back (whole bytes) ∙ mod-eq_of_lt (whole_fits bytes h) in
-    same_asserted m i (bytes_of_whole (whole bytes)) bytes at (are_whole_bytes (whole bytes)) h (ap (λ w. bit_and w (asked_bits m i)) back)
+    depending m k i sound is (bytes_of_whole (whole bytes)) bytes (are_whole_bytes (whole bytes)) h (ap (λ w. bit_and w (asked_bits m i)) back)
 
 -- what matches bytes fits their whole
 fits_of_match : (m : Machine) (k : ℕ) (bytes : List ℕ) → HasPatterns m → AreBytes bytes → (x : IsMatch m bytes k) → Fits (pattern m x.insn) (asserted m k) (whole bytes)
@@ -54,12 +58,12 @@ fits_of_match m k bytes sound h x =
     let front : (nat_le (length_of m i) (length bytes) && list_all (part_stands m bytes) i.parts) ≡ true = first_true _ (asserts m i bytes) x.matching in
     record {
       decodable = x.decodable;
-      stands = parts_to_whole m i.parts bytes sound.placed (sound.fitting k i x.within) h (second_true (nat_le (length_of m i) (length bytes)) _ front);
-      meets = asserted_at m k i (whole bytes) x.within ∙ same_through m i bytes sound.placed h ∙ second_true (nat_le (length_of m i) (length bytes) && list_all (part_stands m bytes) i.parts) _ x.matching;
+      stands = parts_to_whole m i.parts bytes (sound.fitting k i x.within) h (second_true (nat_le (length_of m i) (length bytes)) _ front);
+      meets = asserted_at m k i (whole bytes) x.within ∙ same_through m k i bytes sound x.within h ∙ second_true (nat_le (length_of m i) (length bytes) && list_all (part_stands m bytes) i.parts) _ x.matching;
     }
 
 -- and what fits the whole of bytes that are long enough matches them
-match_of_fits : (m : Machine) (k : ℕ) (i : Insn) (bytes : List ℕ) → HasPatterns m → AreBytes bytes → slice_get m.insns k ≡ Some i → length_of m i ≤ length bytes → Fits (pattern m i) (asserted m k) (whole bytes) → IsMatch m bytes k
+pub match_of_fits : (m : Machine) (k : ℕ) (i : Insn) (bytes : List ℕ) → HasPatterns m → AreBytes bytes → slice_get m.insns k ≡ Some i → length_of m i ≤ length bytes → Fits (pattern m i) (asserted m k) (whole bytes) → IsMatch m bytes k
 match_of_fits m k i bytes sound h is long x =
     let enough : nat_le (length_of m i) (length bytes) ≡ true = grind (arith, nat_tests) in
     record {
@@ -67,12 +71,12 @@ match_of_fits m k i bytes sound h is long x =
       within = is;
       decodable = x.decodable;
       matching = both_true _ (asserts m i bytes)
-          (both_true (nat_le (length_of m i) (length bytes)) _ enough (parts_from_whole m i.parts bytes sound.placed (sound.fitting k i is) h x.stands))
-          (sym (same_through m i bytes sound.placed h) ∙ sym (asserted_at m k i (whole bytes) is) ∙ x.meets);
+          (both_true (nat_le (length_of m i) (length bytes)) _ enough (parts_from_whole m i.parts bytes (sound.fitting k i is) h x.stands))
+          (sym (same_through m k i bytes sound is h) ∙ sym (asserted_at m k i (whole bytes) is) ∙ x.meets);
     }
 
 -- pattern number k
-pattern_at : (m : Machine) (k : ℕ) (i : Insn) → slice_get m.insns k ≡ Some i → slice_get (map (pattern m) m.insns) k ≡ Some (pattern m i)
+pub pattern_at : (m : Machine) (k : ℕ) (i : Insn) → slice_get m.insns k ≡ Some i → slice_get (map (pattern m) m.insns) k ≡ Some (pattern m i)
 pattern_at m k i is = slice_get-map (pattern m) m.insns k ∙ ap (λ o. elim o as (λ _. Option Pattern) [ None ↦ None | Some x ↦ Some (pattern m x) ]) is
 
 -- a clash on bytes is one on their whole
@@ -100,10 +104,10 @@ at : (m : Machine) (k : ℕ) (p : Pattern) → slice_get (map (pattern m) m.insn
 at m k p e = at_of m k p (slice_get m.insns k) refl (sym (slice_get-map (pattern m) m.insns k) ∙ e)
 
 -- the bits of a number modulo 2 ^ k
-low_part : (a k q : ℕ) → q < k → bit_at (a % 2 ^ k) q ≡ bit_at a q
+pub low_part : (a k q : ℕ) → q < k → bit_at (a % 2 ^ k) q ≡ bit_at a q
 low_part a k q h = sym (bit_at_cat_low (a / 2 ^ k) k (a % 2 ^ k) q h) ∙ ap (λ x. bit_at x q) (div-add-mod' a (2 ^ k))
 
-high_part : (a k q : ℕ) → k ≤ q → bit_at (a % 2 ^ k) q ≡ 0
+pub high_part : (a k q : ℕ) → k ≤ q → bit_at (a % 2 ^ k) q ≡ 0
 high_part a k q h = bit_at_above (a % 2 ^ k) k q (mod_below a (2 ^ k) (pow_pos k)) h
 
 -- what two numbers share under some bits, their lowest bits share
@@ -122,16 +126,19 @@ pub patterns_sound : (m : Machine) → HasPatterns m → AreSound (map (pattern 
 patterns_sound m sound = record {
   covers = λ k p e.
       let x : At m k p = at m k p e in
-      subst Covers x.same (record { inside = parts_inside m x.insn.parts sound.placed (sound.fitting k x.insn x.is) });
+      subst Covers x.same (record { inside = parts_inside m x.insn.parts (sound.fitting k x.insn x.is) });
   depends = λ k p e.
       let x : At m k p = at m k p e in
       subst (λ p. Depends (asserted m k) p.named) x.same (record {
         on = λ a b same.
             asserted_at m k x.insn a x.is
-            ∙ same_asserted m x.insn (bytes_of_whole a) (bytes_of_whole b) sound.placed (are_whole_bytes a) (are_whole_bytes b)
+            ∙ depending m k x.insn sound x.is (bytes_of_whole a) (bytes_of_whole b) (are_whole_bytes a) (are_whole_bytes b)
             (ap (λ w. bit_and w (asked_bits m x.insn)) (whole_back a) ∙ cut_alike a b (asked_bits m x.insn) 128 same ∙ ap (λ w. bit_and w (asked_bits m x.insn)) (sym (whole_back b)))
             ∙ sym (asserted_at m k x.insn b x.is);
       });
+  few = λ k p e.
+      let x : At m k p = at m k p e in
+      subst (λ p. count_ones p.named ≤ 8) x.same (sound.few k x.insn x.is);
 }
 
 -- a number without its lowest bits
@@ -167,19 +174,19 @@ fits_above m k r i w sound is le x =
     }
 
 -- the length of the instruction at a number
-length_is : (m : Machine) (k : ℕ) (i : Insn) → slice_get m.insns k ≡ Some i → length_at m k ≡ length_of m i
+pub length_is : (m : Machine) (k : ℕ) (i : Insn) → slice_get m.insns k ≡ Some i → length_at m k ≡ length_of m i
 length_is m k i is = ap (λ o. elim o as (λ _. ℕ) [ None ↦ 0 | Some x ↦ length_of m x ]) is
 
 -- the two instructions of a clash on numbers
-record Two (m : Machine) (i j w : ℕ) : Type 0 where
-  first : Insn
-  second : Insn
-  first_is : slice_get m.insns i ≡ Some first
-  second_is : slice_get m.insns j ≡ Some second
-  first_fits : Fits (pattern m first) (asserted m i) w
-  second_fits : Fits (pattern m second) (asserted m j) w
+pub record Two (m : Machine) (i j w : ℕ) : Type 0 where
+  pub first : Insn
+  pub second : Insn
+  pub first_is : slice_get m.insns i ≡ Some first
+  pub second_is : slice_get m.insns j ≡ Some second
+  pub first_fits : Fits (pattern m first) (asserted m i) w
+  pub second_fits : Fits (pattern m second) (asserted m j) w
 
-two_of : (m : Machine) (i j w : ℕ) → Clashes (map (pattern m) m.insns) (asserted m) i j w → Two m i j w
+pub two_of : (m : Machine) (i j w : ℕ) → Clashes (map (pattern m) m.insns) (asserted m) i j w → Two m i j w
 two_of m i j w x =
     let p : At m i x.first = at m i x.first x.first_at in
     let q : At m j x.second = at m j x.second x.second_at in
@@ -202,8 +209,8 @@ clash_of m i j w before x = record {
   both = record { first = x.first_fits; second = x.second_fits };
 }
 
-longer_few : (m : Machine) (i j w : ℕ) → HasPatterns m → Two m i j w → longer m i j ≤ 16
-longer_few m i j w sound x = omega (arith, length_is m i x.first x.first_is, length_is m j x.second x.second_is, short m x.first sound.placed sound.base, short m x.second sound.placed sound.base)
+pub longer_few : (m : Machine) (i j w : ℕ) → HasPatterns m → Two m i j w → longer m i j ≤ 16
+longer_few m i j w sound x = omega (arith, length_is m i x.first x.first_is, length_is m j x.second x.second_is, sound.short i x.first x.first_is, sound.short j x.second x.second_is)
 
 -- the least number has no bit behind the longer of the two
 no_bit_behind : (m : Machine) (i j w : ℕ) → HasPatterns m → IsFirst (map (pattern m) m.insns) (asserted m) i j w → w % 2 ^ (8 * (16 - longer m i j)) ≡ 0

@@ -1,20 +1,21 @@
 -- How the table of patterns is filled.
-use Rattle.std.proofs.Common.{◌≡◌, ℕ, ◌<◌, ◌^◌, max, Bool, List, length, take, slice_index, map, Some, slice_get, sym, ap, ◌∙◌, subst, arith}
+use Rattle.std.proofs.Common.{◌≡◌, ℕ, ◌<◌, ◌≤◌, ◌^◌, max, Bool, List, length, take, slice_index, map, Some, slice_get, sym, ap, ◌∙◌, subst, arith}
 use Rattle.cg_model.specs.declared.insn.Insn.{Insn}
 use Rattle.cg_model.specs.declared.machine.Machine.{Machine}
-use Rattle.cg_model.specs.Matching.{asserts}
+use Rattle.cg_model.specs.Matching.{asserts, length_of}
 use Rattle.cg_view.specs.View.{bytes_of_whole}
-use Rattle.cg_model.specs.Covers.{ArePlaced}
+use Rattle.cg_view.proofs.Wholes.{length_whole}
+use Rattle.cg_model.specs.Covers.{AreInWords}
 use Rattle.cg_ambig.specs.Patterns.{pattern, HasPatterns, asserted_of, asserted}
 use Rattle.cg_ambig.proofs.Sounding.{has_patterns}
-use Rattle.cg_model.specs.Sound.{IsSound}
+use Rattle.cg_model.specs.Sound.{IsSound, SoundInsn}
 use Rattle.cg_clash.specs.First.{IsFirst}
 use Rattle.cg_model.specs.Clashing.{length_at, longer, NoClash as NoClashing, FirstClash as IsFirstClash, FirstClashIn as IsClashIn}
 use Rattle.cg_clash.specs.First.{NoClash, AreSound}
 use Rattle.cg_clash.specs.declared.pairs.Pattern.{Pattern}
 use Rattle.cg_ambig.proofs.Bridge.{patterns_sound, first_on_bytes, zeros_after, none_on_bytes}
 
-pub placed_machine : (m : Machine) → HasPatterns m → ArePlaced m
+pub placed_machine : (m : Machine) → HasPatterns m → AreInWords m
 placed_machine m sound = sound.placed
 
 pub meets_at : (m : Machine) (k : ℕ) (i : Insn) (w : ℕ) (bytes : List ℕ) (r : Bool) → slice_get m.insns k ≡ Some i → bytes ≡ bytes_of_whole w → r ≡ asserts m i bytes → r ≡ asserted m k w
@@ -28,6 +29,10 @@ clash_on_bytes m i j w len a b bytes sound fits found first second longest same 
       first = subst (IsFirstClash m i j) (sym (ap (λ n. take n bytes) long ∙ ap (take (longer m i j)) same)) (first_on_bytes m i j w (has_patterns m sound) fits found);
       behind = λ k ge lt. ap (λ bs. slice_index bs k) same ∙ zeros_after m i j w k (has_patterns m sound) fits found (omega arith) lt;
     }
+
+-- each instruction of a sound machine has 16 bytes at most
+pub within_whole : (m : Machine) (i : Insn) (w : ℕ) (bytes : List ℕ) → SoundInsn m i → bytes ≡ bytes_of_whole w → length_of m i ≤ length bytes
+within_whole m i w bytes sound same = omega (arith, sound.short, ap length same, length_whole w)
 
 pub ruleset filling = (placed_machine)
 

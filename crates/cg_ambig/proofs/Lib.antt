@@ -1,3 +1,4 @@
 pub mod Sounding
 pub mod Bridge
 pub mod Filling
+pub mod Strings

@@ -1,12 +1,12 @@
 -- What an instruction says of the whole.
-use Rattle.std.specs.Prelude.{◌≡◌, ℕ, ◌≤◌, Bool, true, false, List, Option, Some, None, slice_get}
+use Rattle.std.specs.Prelude.{◌≡◌, ℕ, ◌≤◌, Bool, true, false, List, Option, Some, None, slice_get, count_ones}
 use Rattle.cg_model.specs.declared.insn.Insn.{Insn}
 use Rattle.cg_model.specs.declared.machine.Machine.{Machine}
-use Rattle.cg_model.specs.Matching.{asserts, fields_of_parts}
+use Rattle.cg_model.specs.Matching.{asserts, fields_of_parts, length_of}
 use Rattle.cg_model.specs.Sound.{is_allowed, of_format}
 use Rattle.cg_model.specs.declared.rtl.Rtl.{Rtl}
 use Rattle.cg_clash.specs.declared.pairs.Pattern.{Pattern}
-use Rattle.cg_model.specs.Covers.{ArePlaced, asked_bits}
+use Rattle.cg_model.specs.Covers.{AreInWords, asked_bits}
 use Rattle.cg_view.specs.View.{bytes_of_whole}
 use Rattle.cg_view.specs.Constants.{parts_cover, parts_value, AreFitting}
 
@@ -21,10 +21,11 @@ asserted_of m (Some i) bytes = asserts m i bytes
 abbrev pub asserted : Machine → ℕ → ℕ → Bool
 asserted m k w = asserted_of m (slice_get m.insns k) (bytes_of_whole w)
 
--- What patterns need of a machine, and a sound one has: its fields lie in 16 bytes, its base has 16 bytes at most, the constants of each
--- format fit and don't overlap, and an assertion names fields of its own format alone.
+-- What patterns need of a machine, and a sound one has: its fields lie in their words, its instructions have 16 bytes at most, the constants of each
+-- format fit and don't overlap, and an assertion names fields of its own format alone, 8 bits of them at most.
 pub record HasPatterns (m : Machine) : Type 0 where
-  pub placed : ArePlaced m
-  pub base : m.base_bits ≤ 128
+  pub placed : AreInWords m
+  pub short : (k : ℕ) (i : Insn) → slice_get m.insns k ≡ Some i → length_of m i ≤ 16
   pub fitting : (k : ℕ) (i : Insn) → slice_get m.insns k ≡ Some i → AreFitting m i.parts
   pub named : (k : ℕ) (i : Insn) → slice_get m.insns k ≡ Some i → (rule : Rtl) → i.assertion ≡ Some rule → is_allowed (of_format m (fields_of_parts m i.parts)) rule ≡ true
+  pub few : (k : ℕ) (i : Insn) → slice_get m.insns k ≡ Some i → count_ones (asked_bits m i) ≤ 8

@@ -1,8 +1,8 @@
-ghost use Rattle.std.specs.Prelude.{◌≡◌, ℕ, ◌≤◌, length, map, MatchOption};
-ghost use Rattle.cg_model.specs.Matching.{asserts};
+ghost use Rattle.std.specs.Prelude.{◌≡◌, ◌≤◌, length, map, slice_get, MatchOption, ⊤};
 ghost use Rattle.cg_clash.specs.First.{IsFirst};
 ghost use Rattle.cg_ambig.specs.Patterns.{pattern, asserted};
-ghost use Rattle.cg_model.specs.Sound.{IsSound};
+ghost use Rattle.cg_model.specs.Sound.{IsSound, SoundInsn};
+ghost use Rattle.std.specs.Option.{option_copied};
 ghost use Rattle.cg_model.specs.Clashing.{NoClash, FirstClashIn, length_at};
 
 use crate::patterns::fill;
@@ -10,31 +10,32 @@ use cg_clash::{Judge, Pattern, first_pair};
 use cg_code::insn_length;
 use cg_model::{Clash, Insn, Machine};
 
-/// What tells whether bytes meet an assertion.
-pub trait Asserts {
-    /// Whether 16 bytes meet an instruction's assertion.
-    fn meets(&self, machine: &Machine, insn: &Insn, bytes: &[u8; 16]) -> bool
-        ensures { result ≡ asserts machine.now insn.now bytes.now };
-}
-
-/// The assertions of a machine's instructions.
+/// The assertions of a sound machine's instructions.
 #[derive(Drop)]
-struct Assertions<'a, A> {
+struct Assertions<'a> {
     machine: &'a Machine,
-    asserting: &'a A,
 }
 
-impl<A: Asserts> Judge for Assertions<'_, A> {
+impl Judge for Assertions<'_> {
     ghost asserted = { λ a. asserted a.machine.now };
 
+    ghost ready = { λ a. IsSound a.machine.now };
+
     fn meets(&self, i: usize, number: u128) -> bool {
-        match self.machine.insns.get(i) {
-            Some(insn) => self
-                .asserting
-                .meets(self.machine, insn, &number.to_be_bytes()),
+        match insn_at(self.machine, i) {
+            Some(insn) => cg_code::asserted(self.machine, insn, &number.to_be_bytes()),
             None => false,
         }
     }
+}
+
+/// The instruction of a number.
+fn insn_at(machine: &Machine, i: usize) -> Option<&Insn>
+    requires { IsSound machine.now }
+    ensures value { option_copied result ≡ slice_get machine.now.insns i }
+    ensures sound { MatchOption result ⊤ (λ x. SoundInsn machine.now x.now) }
+{
+    machine.insns.get(i)
 }
 
 /// How many bytes the instruction of a number has.
@@ -42,7 +43,7 @@ fn length_of(machine: &Machine, i: usize) -> u8
     requires { IsSound machine.now }
     ensures { result ≡ length_at machine.now i }
 {
-    match machine.insns.get(i) {
+    match insn_at(machine, i) {
         Some(insn) => insn_length(machine, insn),
         None => 0,
     }
@@ -67,7 +68,7 @@ fn clash_on(machine: &Machine, first: usize, second: usize, number: u128) -> Cla
 /// The first two decodable instructions that match the same bytes, and the least such bytes
 /// (docs/LANGUAGE.md, "Encoding and matching"). None exactly where no two do. It takes no memory.
 #[tactic(auto, using(crate::proofs::Filling::answering))]
-pub fn first_clash_by<A: Asserts>(machine: &Machine, asserting: &A) -> Option<Clash>
+pub fn first_clash(machine: &Machine) -> Option<Clash>
     requires sound { IsSound machine.now }
     ensures { MatchOption result (NoClash machine.now) (λ c. FirstClashIn machine.now c.first c.second c.len c.bytes) }
 {
@@ -79,7 +80,7 @@ pub fn first_clash_by<A: Asserts>(machine: &Machine, asserting: &A) -> Option<Cl
     };
     let mut patterns = [none; 4096];
     fill(machine, &mut patterns);
-    let judge = Assertions { machine, asserting };
+    let judge = Assertions { machine };
     match first_pair(&judge, &patterns[..machine.insns.len()]) {
         Some(found) => Some(clash_on(machine, found.first, found.second, found.number)),
         None => None,

@@ -2,7 +2,9 @@
 #![tactic(auto)]
 
 mod ambiguity;
+mod laws;
 mod patterns;
 
-pub use ambiguity::{Asserts, first_clash_by};
+pub use ambiguity::first_clash;
 pub use cg_model::Clash;
+pub use laws::same_on_strings;

@@ -1,5 +1,5 @@
 ghost use Rattle.std.specs.Prelude.{◌≡◌, ◌≤◌, length, take, map};
-ghost use Rattle.cg_model.specs.Covers.{ArePlaced};
+ghost use Rattle.cg_model.specs.Covers.{AreInWords};
 ghost use Rattle.cg_view.specs.Constants.{AreFitting};
 ghost use Rattle.cg_ambig.specs.Patterns.{pattern, HasPatterns};
 
@@ -9,7 +9,7 @@ use cg_view::{constants_of, named};
 
 /// What an instruction says of all bits.
 pub fn pattern_of(machine: &Machine, insn: &Insn) -> Pattern
-    requires placed { ArePlaced machine.now }
+    requires placed { AreInWords machine.now }
     requires fitting { AreFitting machine.now insn.now.parts }
     ensures { result ≡ pattern machine.now insn.now }
 {

@@ -1,7 +1,8 @@
 ghost use Rattle.std.specs.Prelude.{◌≡◌, ◌<◌, length, MatchOption};
 ghost use Rattle.cg_clash.specs.First.{AreSound, NoClash, IsFirst, NoneWith, IsFirstWith};
 
-use crate::pairs::{Judge, Pattern, least_of_pair};
+use crate::pairs::{Judge, Pattern, least_among};
+use crate::ways::ways_of;
 
 /// An instruction and a number that it matches together with another.
 #[derive(Clone, Copy)]
@@ -26,6 +27,7 @@ pub struct Found {
 /// The first instruction behind number `i` that matches a number together with it.
 #[tactic(auto, using(crate::proofs::InOrder::behind))]
 pub fn first_with<J: Judge>(judge: &J, patterns: &[Pattern], i: usize) -> Option<With>
+    requires ready { J.ready judge.now }
     requires sound { AreSound patterns.now (J.asserted judge.now) }
     requires within { i < length patterns.now }
     ensures { MatchOption result
@@ -33,8 +35,9 @@ pub fn first_with<J: Judge>(judge: &J, patterns: &[Pattern], i: usize) -> Option
         (λ x. IsFirstWith patterns.now (J.asserted judge.now) i x.second x.number) }
 {
     let first = &patterns[i];
+    let ways = ways_of(judge, i, first);
     for second in i + 1..patterns.len() {
-        if let Some(number) = least_of_pair(judge, i, first, second, &patterns[second]) {
+        if let Some(number) = least_among(judge, i, first, &ways, second, &patterns[second]) {
             return Some(With { second, number });
         }
     }
@@ -44,6 +47,7 @@ pub fn first_with<J: Judge>(judge: &J, patterns: &[Pattern], i: usize) -> Option
 /// The first two instructions that match the same number, and the least such number.
 #[tactic(auto, using(crate::proofs::InOrder::pairs))]
 pub fn first_pair<J: Judge>(judge: &J, patterns: &[Pattern]) -> Option<Found>
+    requires ready { J.ready judge.now }
     requires sound { AreSound patterns.now (J.asserted judge.now) }
     ensures { MatchOption result
         (NoClash patterns.now (J.asserted judge.now))

@@ -6,7 +6,7 @@ use Rattle.std.proofs.lemmas.List.{drop_all}
 use Rattle.cg_model.specs.declared.field.Field.{Field}
 use Rattle.cg_model.specs.declared.insn.Part.{Part}
 use Rattle.cg_model.specs.declared.machine.Machine.{Machine}
-use Rattle.cg_model.specs.Covers.{IsPlaced}
+use Rattle.cg_model.specs.Covers.{IsInWord}
 use Rattle.cg_model.specs.Matching.{fields_of_part, fields_of_parts, end_of, last_end, part_stands}
 
 -- the end of two rows of fields
@@ -17,9 +17,9 @@ end_of_both m (k ∷ ks) ls = omega (arith, end_of_both m ks ls)
 -- the end so far, with what is left, is the end of all
 pub record Ended (m : Machine) (all rest : List ℕ) (end : ℕ) : Type 0 where
   pub last : max end (last_end m rest) ≡ last_end m all
-  pub few : end ≤ 128
+  pub few : end ≤ 131072
 
-pub ended_more : (m : Machine) (all ks : List ℕ) (i end own : ℕ) (d : ℕ) → i < length ks → Ended m all (drop i ks) end → own ≡ end_of (slice_get m.fields (get_or ks i d)) → own ≤ 128 → Ended m all (drop (i + 1) ks) (max own end)
+pub ended_more : (m : Machine) (all ks : List ℕ) (i end own : ℕ) (d : ℕ) → i < length ks → Ended m all (drop i ks) end → own ≡ end_of (slice_get m.fields (get_or ks i d)) → own ≤ 131072 → Ended m all (drop (i + 1) ks) (max own end)
 ended_more m all ks i end own d within so_far is few =
     let next : suc i ≡ i + 1 = omega arith in
     let split : drop i ks ≡ get_or ks i d ∷ drop (i + 1) ks = drop-cons ks i d within ∙ ap (λ k. get_or ks i d ∷ drop k ks) next in
@@ -33,9 +33,9 @@ ended_all m all ks i end past so_far =
 
 pub record PartsEnded (m : Machine) (all rest : List Part) (end : ℕ) : Type 0 where
   pub last : max end (last_end m (fields_of_parts m rest)) ≡ last_end m (fields_of_parts m all)
-  pub few : end ≤ 128
+  pub few : end ≤ 131072
 
-pub parts_more : (m : Machine) (all ps : List Part) (i end own : ℕ) (d : Part) → i < length ps → PartsEnded m all (drop i ps) end → own ≡ last_end m (fields_of_part m (get_or ps i d)) → own ≤ 128 → PartsEnded m all (drop (i + 1) ps) (max own end)
+pub parts_more : (m : Machine) (all ps : List Part) (i end own : ℕ) (d : Part) → i < length ps → PartsEnded m all (drop i ps) end → own ≡ last_end m (fields_of_part m (get_or ps i d)) → own ≤ 131072 → PartsEnded m all (drop (i + 1) ps) (max own end)
 parts_more m all ps i end own d within so_far is few =
     let next : suc i ≡ i + 1 = omega arith in
     let split : drop i ps ≡ get_or ps i d ∷ drop (i + 1) ps = drop-cons ps i d within ∙ ap (λ k. get_or ps i d ∷ drop k ps) next in
@@ -48,7 +48,7 @@ parts_all m all ps i end past so_far =
     omega (arith, last.last)
 
 -- the word of a field that ends within some bytes
-pub word_inside : (f : Field) (n : ℕ) → IsPlaced f → f.word_offset + f.word_bits ≤ 8 * n → f.word_offset / 8 + f.word_bits / 8 ≤ n
+pub word_inside : (f : Field) (n : ℕ) → IsInWord f → f.word_offset + f.word_bits ≤ 8 * n → f.word_offset / 8 + f.word_bits / 8 ≤ n
 word_inside f n at h = omega (arith, at.offset, at.bytes, h)
 
 -- the constants that are left, and what is known of the bytes

@@ -18,7 +18,7 @@ use Rattle.cg_model.specs.Fields.{extended, decoded, around, around_value, aroun
 use Rattle.cg_model.specs.Slots.{slot_mode, is_register}
 use Rattle.cg_model.specs.Sound.{IsSound, SoundField, SoundMulti, SoundOperand, SoundHardware, IsRule, Allowed, is_word, is_there}
 use Rattle.cg_code.proofs.Around.{rule_of_value, rule_of_fields}
-use Rattle.cg_code.proofs.Held.{held_to_decode, held_to_extract}
+use Rattle.cg_code.proofs.Held.{held_to_extract}
 
 -- a mode that has bits is none without
 has_bits : (k : Mode) → 1 ≤ bits_of k → k ≢ Void
@@ -44,17 +44,6 @@ cut_below k n = mod_below n (2 ^ k) (pow_pos k)
 
 pub few_bits : (k : Mode) → bits_of k ≤ 64
 few_bits k = grind arith
-
--- the rule of a field
-pub decoded_by : (m : Machine) (f : Field) (r : Rtl) (pc x number n : ℕ) → f.decode ≡ Some r → SoundField m f → x ≡ extended f number → n ≡ pure_value m (around m x pc []) r (Some f.mode) → n ≡ decoded m f pc number
-decoded_by m f r pc x number n is sound plain gives =
-    gives ∙ rule_of_value m f.mode x pc [] r (Some f.mode) (sound.decode r is).allowed
-    ∙ ap (λ y. pure_value m (around_value y pc) r (Some f.mode)) plain
-    ∙ sym (ap (λ o. elim o as (λ _. ℕ) [ None ↦ extended f number | Some rule ↦ pure_value m (around_value (extended f number) pc) rule (Some f.mode) ]) is)
-
-pub decoded_plain : (m : Machine) (f : Field) (pc x number : ℕ) → f.decode ≡ None → x ≡ extended f number → x ≡ decoded m f pc number
-decoded_plain m f pc x number is plain =
-    plain ∙ sym (ap (λ o. elim o as (λ _. ℕ) [ None ↦ extended f number | Some rule ↦ pure_value m (around_value (extended f number) pc) rule (Some f.mode) ]) is)
 
 pub rule_fits : (m : Machine) (own : Mode) (ok : Allowed) (r : Rtl) (n : ℕ) → IsRule m own ok r → ((k : Mode) → mode_of m r (Some own) ≡ Ok k → n < 2 ^ bits_of k) → n < 2 ^ bits_of own
 rule_fits m own ok r n rule fits = subst (λ b. n < 2 ^ b) rule.same (fits rule.gives.mode rule.gives.moded)
@@ -85,6 +74,6 @@ pub ruleset word = (cut_to_bits, power_some, cut_below, few_bits, word_bits_few)
 
 pub ruleset slot = (slot_has_bits)
 
-pub ruleset decoding = (decoded_by, decoded_plain, rule_fits, extracted_by, held_to_decode, held_to_extract)
+pub ruleset decoding = (rule_fits, extracted_by, held_to_extract)
 
 pub ruleset fields = (mode_of_field, mode_of_multi)

@@ -14,43 +14,10 @@ use Rattle.cg_model.specs.declared.rtl.Op.TheVariants as op
 use Rattle.cg_model.specs.declared.rtl.Rtl.{Rtl, roll-Rtl, Rtl-F, map-Rtl, ind-Rtl}
 use Rattle.cg_model.specs.Matching.{end_of, last_end, length_of, fields_of_parts}
 use Rattle.cg_model.specs.Sound.{Allowed, is_allowed, is_among, names_among, of_value, of_fields, of_format, is_plain, IsSound, SoundField, SoundMulti, SoundInsn, IsRule}
-use Rattle.cg_code.specs.Evaluable.{is_held, all_held}
+use Rattle.cg_pure.specs.Evaluable.{is_held, all_held}
+use Rattle.cg_pure.proofs.Held.{Implies, wider, lt_true, le_true}
 use Rattle.cg_code.proofs.Around.{first_true, second_true, allowed_out}
 use Rattle.cg_code.proofs.Matched.{ends_inside}
-
--- what is allowed at each node by one rule is so by another
-record Implies (ok more : Allowed) : Type 0 where
-  at : (o : Op) (mode : Option Mode) (n : ℤ) → ok o mode n ≡ true → more o mode n ≡ true
-
-Wider : Allowed → Allowed → Rtl → Type 0
-Wider ok more r = is_allowed ok r ≡ true → is_allowed more r ≡ true
-
-both_true : (a b : Bool) → a ≡ true → b ≡ true → (a && b) ≡ true
-both_true a b e f = ap (λ x. x && b) e ∙ f
-
-wider_items : (ok more : Allowed) (items : List ((r : Rtl) × Wider ok more r)) → list_all (λ x. x) (map (is_allowed ok) (map (λ e. e.0) items)) ≡ true
-    → list_all (λ x. x) (map (is_allowed more) (map (λ e. e.0) items)) ≡ true
-unfolding Wider
-wider_items ok more [] h = refl
-wider_items ok more (e ∷ es) h = both_true (is_allowed more e.0) _ (e.1 (first_true (is_allowed ok e.0) _ h)) (wider_items ok more es (second_true (is_allowed ok e.0) _ h))
-
-wider_step : (ok more : Allowed) → Implies ok more → (x : Rtl-F Rtl) (y : Rtl-F ((r : Rtl) × Wider ok more r))
-    → map-Rtl ((r : Rtl) × Wider ok more r) Rtl (λ e. e.0) y ≡ x → Wider ok more (roll-Rtl x)
-unfolding Wider
-wider_step ok more implies x y is = subst (Wider ok more) (ap roll-Rtl is) (λ h.
-    let z : Rtl-F Rtl = map-Rtl ((r : Rtl) × Wider ok more r) Rtl (λ e. e.0) y in
-    let both : (ok y.op y.mode y.number && list_all (λ b. b) (map (is_allowed ok) (map (λ e. e.0) y.items))) ≡ true = sym (allowed_out ok z) ∙ h in
-    allowed_out more z ∙ both_true (more y.op y.mode y.number) _ (implies.at y.op y.mode y.number (first_true (ok y.op y.mode y.number) _ both)) (wider_items ok more y.items (second_true (ok y.op y.mode y.number) _ both)))
-
-wider : (ok more : Allowed) (r : Rtl) → Implies ok more → is_allowed ok r ≡ true → is_allowed more r ≡ true
-unfolding Wider
-wider ok more r implies h = ind-Rtl (Wider ok more) (wider_step ok more implies) r h
-
-lt_true : (a b : ℕ) → a < b → nat_lt a b ≡ true
-lt_true a b h = grind (arith, nat_tests)
-
-le_true : (a b : ℕ) → a ≤ b → nat_le a b ≡ true
-le_true a b h = grind (arith, nat_tests)
 
 -- the rule's own value stands in a mode of so many bits
 value_node : (m : Machine) (own : Mode) (v : ℕ) (bytes : List ℕ) → v < 2 ^ bits_of own → (o : Op) (mode : Option Mode) (n : ℤ) → of_value own o mode n ≡ true → is_held m v bytes o mode n ≡ true
@@ -104,10 +71,6 @@ format_node m ks v bytes inside o mode n h = refl
 pub held_by_format : (m : Machine) (i : Insn) (v : ℕ) (bytes : List ℕ) (r : Rtl) → i.assertion ≡ Some r → IsSound m → SoundInsn m i → length_of m i ≤ length bytes → all_held m v bytes r ≡ true
 unfolding all_held
 held_by_format m i v bytes r is sound own long = wider (of_format m (fields_of_parts m i.parts)) (is_held m v bytes) r (record { at = format_node m (fields_of_parts m i.parts) v bytes (ends_inside m i (length bytes) sound long) }) (own.assertion r is).allowed
-
--- the rules of fields and multi fields
-pub held_to_decode : (m : Machine) (f : Field) (r : Rtl) (v : ℕ) (bytes : List ℕ) → f.decode ≡ Some r → SoundField m f → v < 2 ^ bits_of f.mode → all_held m v bytes r ≡ true
-held_to_decode m f r v bytes is sound fits = held_by_value m f.mode f.mode v bytes r (sound.decode r is) fits
 
 pub held_to_encode : (m : Machine) (f : Field) (r : Rtl) (v : ℕ) (bytes : List ℕ) → f.encode ≡ Some r → SoundField m f → v < 2 ^ bits_of f.mode → all_held m v bytes r ≡ true
 held_to_encode m f r v bytes is sound fits = held_by_value m f.mode f.mode v bytes r (sound.encode r is) fits

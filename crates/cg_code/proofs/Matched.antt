@@ -1,6 +1,8 @@
 -- Whether an instruction matches.
-use Rattle.std.proofs.Common.{◌≡◌, ℕ, ◌*◌, ◌<◌, ◌≤◌, Bool, true, false, ◌&&◌, nat_le, List, length, get_or, Some, slice_get, sym, refl, arith}
+use Rattle.std.proofs.Common.{◌≡◌, ℕ, ◌*◌, ◌<◌, ◌≤◌, Bool, true, false, ◌&&◌, nat_le, List, length, get_or, Some, None, slice_get, sym, ap, ◌∙◌, refl, arith}
 use Rattle.std.specs.List.{list_all}
+use Rattle.cg_code.specs.Coded.{matches_at}
+use Rattle.cg_model.specs.Clashing.{length_at}
 use Rattle.std.proofs.lemmas.Bool.Decides.{nat_tests}
 use Rattle.cg_model.specs.declared.insn.Insn.{Insn}
 use Rattle.cg_model.specs.declared.machine.Machine.{Machine}
@@ -21,6 +23,14 @@ ends_inside m i n sound h = omega (arith, last_within m i (placed m sound), h)
 
 pub sound_insn : (m : Machine) (k : ℕ) (d : Insn) → IsSound m → k < length m.insns → SoundInsn m (get_or m.insns k d)
 sound_insn m k d sound h = sound.insns k (get_or m.insns k d) (slice_get-get_or m.insns k d h)
+
+pub length_is : (m : Machine) (k : ℕ) (i : Insn) (n : ℕ) → slice_get m.insns k ≡ Some i → n ≡ length_of m i → n ≡ length_at m k
+length_is m k i n is long = long ∙ sym (ap (λ o. elim o as (λ _. ℕ) [ None ↦ 0 | Some x ↦ length_of m x ]) is)
+
+pub matches_is : (m : Machine) (k : ℕ) (i : Insn) (bytes : List ℕ) (r : Bool) → slice_get m.insns k ≡ Some i → r ≡ matches m i bytes → r ≡ matches_at m k bytes
+matches_is m k i bytes r is same = same ∙ sym (ap (λ o. elim o as (λ _. Bool) [ None ↦ false | Some x ↦ matches m x bytes ]) is)
+
+pub ruleset numbered = (length_is, matches_is)
 
 pub ruleset matching = (too_short, long_enough, ends_inside, sound_insn)
 

@@ -8,7 +8,7 @@ use Rattle.cg_model.specs.declared.field.Field.{Field}
 use Rattle.cg_model.specs.declared.machine.Machine.{Machine}
 use Rattle.cg_model.specs.declared.rtl.Rtl.{Rtl}
 use Rattle.cg_model.specs.Pure.{pure_value}
-use Rattle.cg_model.specs.Covers.{IsPlaced}
+use Rattle.cg_model.specs.Covers.{IsInWord}
 use Rattle.cg_model.specs.Fields.{around}
 use Rattle.cg_model.specs.Encoding.{ruled, Setting, setting_of, inserted_setting, inserted, with_all, with_bits}
 use Rattle.cg_model.specs.Sound.{SoundField, IsRule, of_value, AreInserts}
@@ -26,13 +26,13 @@ encoded_by m f r pc v n is sound gives =
 pub encoded_plain : (m : Machine) (f : Field) (pc v : ℕ) → f.encode ≡ None → v ≡ encoded m pc v f
 encoded_plain m f pc v is = sym (ap (λ o. elim o as (λ _. ℕ) [ None ↦ v | Some rule ↦ ruled m pc v f rule ]) is)
 
-pub cut_field : (f : Field) (n : ℕ) → IsPlaced f → n < 2 ^ 64 → n % (1 * 2 ^ f.length % 2 ^ 128) % 2 ^ 64 ≡ n % 2 ^ f.length
+pub cut_field : (f : Field) (n : ℕ) → IsInWord f → n < 2 ^ 64 → n % (1 * 2 ^ f.length % 2 ^ 128) % 2 ^ 64 ≡ n % 2 ^ f.length
 cut_field f n at h = cut_to_bits f.length n (omega (arith, at.within, at.few)) h
 
 pub cut_below_field : (f : Field) (n : ℕ) → n % 2 ^ f.length < 2 ^ f.length
 cut_below_field f n = mod_below n (2 ^ f.length) (pow_pos f.length)
 
-pub power_of_field : (f : Field) → IsPlaced f → 1 * 2 ^ f.length % 2 ^ 128 ≡ 2 ^ f.length
+pub power_of_field : (f : Field) → IsInWord f → 1 * 2 ^ f.length % 2 ^ 128 ≡ 2 ^ f.length
 power_of_field f at = one_shl f.length 128 (omega (arith, at.within, at.few))
 
 -- what is set in turn

@@ -3,21 +3,21 @@ use Rattle.std.proofs.Common.{◌≡◌, ℕ, ◌+◌, ◌-◌, ◌*◌, ◌/◌
 use Rattle.std.proofs.lemmas.Nat.{pow_pos, pow-add, mod_below, div_below, mul-add-lt, shr_split, shl_whole, one_shl}
 use Rattle.std.proofs.Math.Nat.{mod-eq_of_lt, pow-le-pow_right}
 use Rattle.cg_model.specs.declared.field.Field.{Field}
-use Rattle.cg_model.specs.Covers.{IsPlaced}
+use Rattle.cg_model.specs.Covers.{IsInWord}
 use Rattle.cg_model.specs.Encoding.{word_with}
 use Rattle.cg_view.proofs.WordBits.{bytes_power}
 
 -- a word has 64 bits at most
-word_fits : (f : Field) (w : ℕ) → IsPlaced f → w < 256 ^ (f.word_bits / 8) → w < 2 ^ f.word_bits
+word_fits : (f : Field) (w : ℕ) → IsInWord f → w < 256 ^ (f.word_bits / 8) → w < 2 ^ f.word_bits
 word_fits f w at h = let e : 8 * (f.word_bits / 8) ≡ f.word_bits = sym at.bytes in subst (λ k. w < 2 ^ k) e (subst (λ p. w < p) (bytes_power (f.word_bits / 8)) h)
 
-pub above_whole : (f : Field) (w : ℕ) → IsPlaced f → w < 2 ^ 64 → w / 2 ^ (f.shift + f.length) * 2 ^ (f.shift + f.length) % 2 ^ 128 ≡ w / 2 ^ (f.shift + f.length) * 2 ^ (f.shift + f.length)
+pub above_whole : (f : Field) (w : ℕ) → IsInWord f → w < 2 ^ 64 → w / 2 ^ (f.shift + f.length) * 2 ^ (f.shift + f.length) % 2 ^ 128 ≡ w / 2 ^ (f.shift + f.length) * 2 ^ (f.shift + f.length)
 above_whole f w at h = mod-eq_of_lt (omega (arith, shr_split w (f.shift + f.length)))
 
-pub own_whole : (f : Field) (n : ℕ) → IsPlaced f → n < 2 ^ f.length → n * 2 ^ f.shift % 2 ^ 128 ≡ n * 2 ^ f.shift
+pub own_whole : (f : Field) (n : ℕ) → IsInWord f → n < 2 ^ f.length → n * 2 ^ f.shift % 2 ^ 128 ≡ n * 2 ^ f.shift
 own_whole f n at h = shl_whole n f.length f.shift 128 h (omega (arith, at.within, at.few))
 
-pub low_whole : (f : Field) (w : ℕ) → IsPlaced f → w % (1 * 2 ^ f.shift % 2 ^ 128) ≡ w % 2 ^ f.shift
+pub low_whole : (f : Field) (w : ℕ) → IsInWord f → w % (1 * 2 ^ f.shift % 2 ^ 128) ≡ w % 2 ^ f.shift
 low_whole f w at = ap (λ p. w % p) (one_shl f.shift 128 (omega (arith, at.within, at.few, at.own)))
 
 -- the field's bits and those below it
@@ -25,7 +25,7 @@ own_below : (f : Field) (n w : ℕ) → n < 2 ^ f.length → n * 2 ^ f.shift + w
 own_below f n w h = subst (λ p. n * 2 ^ f.shift + w % 2 ^ f.shift < p) (sym (pow-add 2 f.shift f.length)) (mul-add-lt n (2 ^ f.shift) (w % 2 ^ f.shift) (2 ^ f.length) h (mod_below w (2 ^ f.shift) (pow_pos f.shift)))
 
 -- a word that was set is a word
-pub set_below : (f : Field) (n w : ℕ) → IsPlaced f → n < 2 ^ f.length → w < 256 ^ (f.word_bits / 8) → word_with f n w < 2 ^ f.word_bits
+pub set_below : (f : Field) (n w : ℕ) → IsInWord f → n < 2 ^ f.length → w < 256 ^ (f.word_bits / 8) → word_with f n w < 2 ^ f.word_bits
 set_below f n w at h k =
     let top : ℕ = f.shift + f.length in
     let rest : ℕ = f.word_bits - top in
@@ -37,14 +37,14 @@ set_below f n w at h k =
     let all : w / 2 ^ top * 2 ^ top + (n * 2 ^ f.shift + w % 2 ^ f.shift) < 2 ^ top * 2 ^ rest = mul-add-lt (w / 2 ^ top) (2 ^ top) (n * 2 ^ f.shift + w % 2 ^ f.shift) (2 ^ rest) high (own_below f n w h) in
     omega (arith, all, power)
 
-pub set_fits : (f : Field) (n w : ℕ) → IsPlaced f → n < 2 ^ f.length → w < 256 ^ (f.word_bits / 8) → word_with f n w < 256 ^ (f.word_bits / 8)
+pub set_fits : (f : Field) (n w : ℕ) → IsInWord f → n < 2 ^ f.length → w < 256 ^ (f.word_bits / 8) → word_with f n w < 256 ^ (f.word_bits / 8)
 set_fits f n w at h k = subst (λ p. word_with f n w < p) (sym (bytes_power (f.word_bits / 8))) (let e : f.word_bits ≡ 8 * (f.word_bits / 8) = at.bytes in subst (λ j. word_with f n w < 2 ^ j) e (set_below f n w at h k))
 
-pub set_small : (f : Field) (n w : ℕ) → IsPlaced f → n < 2 ^ f.length → w < 256 ^ (f.word_bits / 8) → word_with f n w < 2 ^ 64
+pub set_small : (f : Field) (n w : ℕ) → IsInWord f → n < 2 ^ f.length → w < 256 ^ (f.word_bits / 8) → word_with f n w < 2 ^ 64
 set_small f n w at h k = let le : 2 ^ f.word_bits ≤ 2 ^ 64 = pow-le-pow_right {n = 2} (omega arith) {i = f.word_bits} {j = 64} at.few in omega (arith, le, set_below f n w at h k)
 
 -- what code gives
-pub set_as : (f : Field) (n w a b c : ℕ) → IsPlaced f → n < 2 ^ f.length → w < 256 ^ (f.word_bits / 8)
+pub set_as : (f : Field) (n w a b c : ℕ) → IsInWord f → n < 2 ^ f.length → w < 256 ^ (f.word_bits / 8)
     → a ≡ w / 2 ^ (f.shift + f.length) * 2 ^ (f.shift + f.length) → b ≡ n * 2 ^ f.shift → c ≡ w % 2 ^ f.shift → (a + b + c) % 2 ^ 64 ≡ word_with f n w
 set_as f n w a b c at h k ea eb ec =
     let same : a + b + c ≡ word_with f n w = omega (arith, ea, eb, ec) in

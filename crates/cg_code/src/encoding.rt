@@ -9,7 +9,6 @@ use crate::extracting::{values_of, word_pc};
 use crate::lengths::insn_length;
 use crate::lookups::insn_at;
 use crate::matching::asserted;
-use crate::pure::Evaluates;
 use crate::putting::in_place;
 use cg_model::{Insn, Machine, Values};
 
@@ -47,7 +46,7 @@ fn first_lost(numbers: &[u64], backs: &[u64]) -> NotInRange
 
 /// The encoding of values by an instruction, in front of 16 bytes with zeros behind.
 #[tactic(auto, using(crate::proofs::Encoded::losing))]
-fn encoded<E: Evaluates>(
+fn encoded(
     machine: &Machine,
     insn: &Insn,
     numbers: &[u64],
@@ -62,15 +61,15 @@ fn encoded<E: Evaluates>(
         (λ len. IsEncoded machine.now insn.now numbers.now pc len out.new)
         (λ e. IsNotInRange machine.now insn.now numbers.now pc e out.old out.new) }
 {
-    let bytes = in_place::<E>(machine, insn, numbers, pc);
+    let bytes = in_place(machine, insn, numbers, pc);
     let len = insn_length(machine, insn);
     let front = &bytes[..len as usize];
-    let back = values_of::<E>(machine, insn, front, pc);
+    let back = values_of(machine, insn, front, pc);
     let lost = first_lost(numbers, &back.numbers[..back.count as usize]);
     if (lost.operand as usize) < numbers.len() {
         return Err(lost);
     }
-    if !asserted::<E>(machine, insn, front) {
+    if !asserted(machine, insn, front) {
         return Err(lost);
     }
     *out = front_alone(&bytes, len);
@@ -93,7 +92,7 @@ fn front_alone(bytes: &[u8; 16], len: u8) -> [u8; 16]
 /// behind. `pc` counts modulo 2^bits of the cpu's word. NotInRange comes exactly where no bytes are
 /// an encoding of the values, and leaves `out`. It takes no memory.
 #[tactic(auto, using(crate::proofs::Encoded::losing))]
-pub fn encode<E: Evaluates>(
+pub fn encode(
     machine: &Machine,
     i: u16,
     values: &Values,
@@ -110,5 +109,5 @@ pub fn encode<E: Evaluates>(
 {
     let insn = insn_at(machine, i);
     let numbers = &values.numbers[..values.count as usize];
-    encoded::<E>(machine, insn, numbers, word_pc(machine, pc), out)
+    encoded(machine, insn, numbers, word_pc(machine, pc), out)
 }

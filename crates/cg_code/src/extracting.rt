@@ -4,19 +4,16 @@ ghost use Rattle.cg_base.specs.declared.Mode.TheVariants.{Void, Usi};
 ghost use Rattle.cg_base.specs.Modes.{bits_of};
 ghost use Rattle.cg_code.specs.Coded.{Holds, values_at, matches_at};
 ghost use Rattle.cg_model.specs.Encoding.{own_pc};
-ghost use Rattle.cg_model.specs.Fields.{decoded as decoded_value, field_value, multi_value, around_fields};
+ghost use Rattle.cg_model.specs.Fields.{field_value, multi_value, around_fields};
 ghost use Rattle.cg_model.specs.Pure.{pure_value};
 ghost use Rattle.cg_model.specs.Matching.{last_end, fields_of_source, fields_of_parts, fields_of_part, length_of};
 ghost use Rattle.cg_model.specs.Slots as spec;
 ghost use Rattle.cg_model.specs.Sound.{IsSound, SoundField, SoundMulti, SoundOperand, SoundInsn};
 
 use crate::lookups::{field_at, multi_at, operand_at};
-use crate::pure::Evaluates;
 use cg_base::{Mode, bits, convert};
-use cg_model::{
-    Field, Hardware, HwKind, Insn, Machine, Multi, Operand, Part, Source, Values, extended,
-    field_bits,
-};
+use cg_model::{Hardware, HwKind, Insn, Machine, Multi, Operand, Part, Source, Values, field_bits};
+use cg_pure::{decoded, pure_eval};
 
 /// A pc modulo 2^bits of the cpu's word.
 #[tactic(auto, using(crate::proofs::Extracted::word))]
@@ -53,26 +50,9 @@ pub(crate) fn slot_mode(machine: &Machine, operand: &Operand) -> Mode
     }
 }
 
-/// What a field's value is for its bits.
-#[tactic(auto, using(crate::proofs::Extracted::decoding))]
-fn decoded<E: Evaluates>(machine: &Machine, field: &Field, pc: u64, number: u64) -> u64
-    requires sound { IsSound machine.now }
-    requires field { SoundField machine.now field.now }
-    requires fits { number < 2 ^ field.now.length }
-    requires word { pc < 2 ^ machine.now.word_bits }
-    ensures value { result ≡ decoded_value machine.now field.now pc number }
-    ensures small { result < 2 ^ bits_of field.now.mode }
-{
-    let plain = extended(field, number);
-    match &field.decode {
-        Some(rule) => E::pure_eval(machine, rule, Some(field.mode), plain, pc, &[]),
-        None => plain,
-    }
-}
-
 /// The value of an operand's field in some mode.
 #[tactic(auto, using(crate::proofs::Extracted::fields))]
-fn field_as<E: Evaluates>(machine: &Machine, mode: Mode, k: u16, bytes: &[u8], pc: u64) -> u64
+fn field_as(machine: &Machine, mode: Mode, k: u16, bytes: &[u8], pc: u64) -> u64
     requires sound { IsSound machine.now }
     requires mode { mode ≢ Void }
     requires inside { last_end machine.now (k ∷ []) ≤ 8 * length bytes.now }
@@ -82,7 +62,7 @@ fn field_as<E: Evaluates>(machine: &Machine, mode: Mode, k: u16, bytes: &[u8], p
 {
     match field_at(machine, k) {
         Some(field) => {
-            let value = decoded::<E>(machine, field, pc, field_bits(machine, field, bytes));
+            let value = decoded(machine, field, pc, field_bits(machine, field, bytes));
             convert(field.mode, mode, value)
         }
         None => 0,
@@ -91,7 +71,7 @@ fn field_as<E: Evaluates>(machine: &Machine, mode: Mode, k: u16, bytes: &[u8], p
 
 /// The value of an operand's multi field in some mode.
 #[tactic(auto, using(crate::proofs::Extracted::fields))]
-fn multi_as<E: Evaluates>(machine: &Machine, mode: Mode, k: u16, bytes: &[u8], pc: u64) -> u64
+fn multi_as(machine: &Machine, mode: Mode, k: u16, bytes: &[u8], pc: u64) -> u64
     requires sound { IsSound machine.now }
     requires mode { mode ≢ Void }
     requires word { pc < 2 ^ machine.now.word_bits }
@@ -100,14 +80,14 @@ fn multi_as<E: Evaluates>(machine: &Machine, mode: Mode, k: u16, bytes: &[u8], p
     ensures small { result < 2 ^ bits_of mode }
 {
     match multi_at(machine, k) {
-        Some(multi) => convert(multi.mode, mode, extracted::<E>(machine, multi, bytes, pc)),
+        Some(multi) => convert(multi.mode, mode, extracted(machine, multi, bytes, pc)),
         None => 0,
     }
 }
 
 /// What a multi field's rule gives.
 #[tactic(auto, using(crate::proofs::Extracted::decoding))]
-fn extracted<E: Evaluates>(machine: &Machine, multi: &Multi, bytes: &[u8], pc: u64) -> u64
+fn extracted(machine: &Machine, multi: &Multi, bytes: &[u8], pc: u64) -> u64
     requires sound { IsSound machine.now }
     requires multi { SoundMulti machine.now multi.now }
     requires word { pc < 2 ^ machine.now.word_bits }
@@ -115,12 +95,12 @@ fn extracted<E: Evaluates>(machine: &Machine, multi: &Multi, bytes: &[u8], pc: u
     ensures value { result ≡ pure_value machine.now (around_fields machine.now bytes.now pc) multi.now.extract (Some multi.now.mode) }
     ensures small { result < 2 ^ bits_of multi.now.mode }
 {
-    E::pure_eval(machine, &multi.extract, Some(multi.mode), 0, pc, bytes)
+    pure_eval(machine, &multi.extract, Some(multi.mode), 0, pc, bytes)
 }
 
 /// The value of an operand in bytes.
 #[tactic(auto, using(crate::proofs::Extracted::slot))]
-fn source_value<E: Evaluates>(machine: &Machine, operand: &Operand, bytes: &[u8], pc: u64) -> u64
+fn source_value(machine: &Machine, operand: &Operand, bytes: &[u8], pc: u64) -> u64
     requires sound { IsSound machine.now }
     requires operand { SoundOperand machine.now operand.now }
     requires inside { last_end machine.now (fields_of_source machine.now operand.now.source) ≤ 8 * length bytes.now }
@@ -129,8 +109,8 @@ fn source_value<E: Evaluates>(machine: &Machine, operand: &Operand, bytes: &[u8]
 {
     let mode = slot_mode(machine, operand);
     match operand.source {
-        Source::Field(k) => field_as::<E>(machine, mode, k, bytes, pc),
-        Source::Multi(k) => multi_as::<E>(machine, mode, k, bytes, pc),
+        Source::Field(k) => field_as(machine, mode, k, bytes, pc),
+        Source::Multi(k) => multi_as(machine, mode, k, bytes, pc),
         Source::Fixed(number) => cut(mode, number),
         Source::None => 0,
     }
@@ -158,13 +138,7 @@ fn with_number(all: Values, number: u64) -> Values
 
 /// The value of a part's slot more, where the part is one.
 #[tactic(auto, using(crate::proofs::Holding::holding))]
-fn with_part<E: Evaluates>(
-    machine: &Machine,
-    part: Part,
-    bytes: &[u8],
-    pc: u64,
-    all: Values,
-) -> Values
+fn with_part(machine: &Machine, part: Part, bytes: &[u8], pc: u64, all: Values) -> Values
     requires sound { IsSound machine.now }
     requires inside { last_end machine.now (fields_of_part machine.now part) ≤ 8 * length bytes.now }
     requires room { all.count + length (spec.slots_of machine.now (part ∷ [])) ≤ 16 }
@@ -173,7 +147,7 @@ fn with_part<E: Evaluates>(
 {
     if let Part::Slot { operand } = part {
         return match operand_at(machine, operand) {
-            Some(operand) => with_number(all, source_value::<E>(machine, operand, bytes, pc)),
+            Some(operand) => with_number(all, source_value(machine, operand, bytes, pc)),
             None => all,
         };
     }
@@ -182,12 +156,7 @@ fn with_part<E: Evaluates>(
 
 /// The values of an instruction's slots.
 #[tactic(auto, using(crate::proofs::Holding::filling))]
-pub(crate) fn values_of<E: Evaluates>(
-    machine: &Machine,
-    insn: &Insn,
-    bytes: &[u8],
-    pc: u64,
-) -> Values
+pub(crate) fn values_of(machine: &Machine, insn: &Insn, bytes: &[u8], pc: u64) -> Values
     requires sound { IsSound machine.now }
     requires insn { SoundInsn machine.now insn.now }
     requires long { length_of machine.now insn.now ≤ length bytes.now }
@@ -199,7 +168,7 @@ pub(crate) fn values_of<E: Evaluates>(
         numbers: [0; 16],
     };
     for part in insn.parts.as_slice() {
-        all = with_part::<E>(machine, *part, bytes, pc, all);
+        all = with_part(machine, *part, bytes, pc, all);
     }
     all
 }
@@ -208,12 +177,12 @@ pub(crate) fn values_of<E: Evaluates>(
 /// instruction stands at `pc` (docs/LANGUAGE.md, "Encoding and matching"). `pc` counts modulo
 /// 2^bits of the cpu's word. It takes no memory.
 #[tactic(auto, using(crate::proofs::Matched::matching))]
-pub fn extract<E: Evaluates>(machine: &Machine, i: u16, bytes: &[u8], pc: u64) -> Values
+pub fn extract(machine: &Machine, i: u16, bytes: &[u8], pc: u64) -> Values
     requires sound { IsSound machine.now }
     requires within { i < length machine.now.insns }
     requires matching { matches_at machine.now i bytes.now ≡ true }
     ensures { Holds result (values_at machine.now i bytes.now (own_pc machine.now pc)) }
 {
     let insn = &machine.insns.as_slice()[i as usize];
-    values_of::<E>(machine, insn, bytes, word_pc(machine, pc))
+    values_of(machine, insn, bytes, word_pc(machine, pc))
 }

@@ -1,29 +1,29 @@
 ghost use Rattle.std.specs.Prelude.{◌≡◌, ◌≤◌, ◌<◌, length, slice_get};
 ghost use Rattle.cg_model.specs.Clashing.{length_at};
 ghost use Rattle.cg_model.specs.Matching as spec;
-ghost use Rattle.cg_model.specs.Sound.{IsSound};
+ghost use Rattle.cg_model.specs.Sound.{IsSound, SoundInsn};
 
-use crate::lookups::{field_at, multi_at, operand_at};
+use crate::lookups::{field_at, insn_at, multi_at, operand_at};
 use cg_model::{Insn, Machine, Part, Source};
 
 /// The end of a field's word, in bits.
-fn end_at(machine: &Machine, k: u16) -> u16
+fn end_at(machine: &Machine, k: u16) -> u32
     requires { IsSound machine.now }
     ensures value { result ≡ spec.end_of (slice_get machine.now.fields k) }
-    ensures few { result ≤ 128 }
+    ensures few { result ≤ 131072 }
 {
     match field_at(machine, k) {
-        Some(field) => field.word_offset + field.word_bits as u16,
+        Some(field) => field.word_offset as u32 + field.word_bits as u32,
         None => 0,
     }
 }
 
 /// The end of the last word of some fields.
 #[tactic(auto, using(crate::proofs::Ends::ends))]
-fn last_end(machine: &Machine, fields: &[u16]) -> u16
+fn last_end(machine: &Machine, fields: &[u16]) -> u32
     requires { IsSound machine.now }
     ensures value { result ≡ spec.last_end machine.now fields.now }
-    ensures few { result ≤ 128 }
+    ensures few { result ≤ 131072 }
 {
     let mut end = 0;
     for k in fields {
@@ -33,10 +33,10 @@ fn last_end(machine: &Machine, fields: &[u16]) -> u16
 }
 
 /// The end of the last word that holds an operand's value.
-fn source_end(machine: &Machine, source: Source) -> u16
+fn source_end(machine: &Machine, source: Source) -> u32
     requires { IsSound machine.now }
     ensures value { result ≡ spec.last_end machine.now (spec.fields_of_source machine.now source) }
-    ensures few { result ≤ 128 }
+    ensures few { result ≤ 131072 }
 {
     match source {
         Source::Field(k) => end_at(machine, k),
@@ -49,10 +49,10 @@ fn source_end(machine: &Machine, source: Source) -> u16
 }
 
 /// The end of the last word that a part of a format covers.
-fn part_end(machine: &Machine, part: Part) -> u16
+fn part_end(machine: &Machine, part: Part) -> u32
     requires { IsSound machine.now }
     ensures value { result ≡ spec.last_end machine.now (spec.fields_of_part machine.now part) }
-    ensures few { result ≤ 128 }
+    ensures few { result ≤ 131072 }
 {
     match part {
         Part::Constant { field, .. } => end_at(machine, field),
@@ -65,10 +65,10 @@ fn part_end(machine: &Machine, part: Part) -> u16
 
 /// The end of the last word of a format.
 #[tactic(auto, using(crate::proofs::Ends::ends))]
-fn parts_end(machine: &Machine, parts: &[Part]) -> u16
+fn parts_end(machine: &Machine, parts: &[Part]) -> u32
     requires { IsSound machine.now }
     ensures value { result ≡ spec.last_end machine.now (spec.fields_of_parts machine.now parts.now) }
-    ensures few { result ≤ 128 }
+    ensures few { result ≤ 131072 }
 {
     let mut end = 0;
     for part in parts {
@@ -79,19 +79,21 @@ fn parts_end(machine: &Machine, parts: &[Part]) -> u16
 
 /// How many bytes an instruction has (docs/LANGUAGE.md, "Encoding and matching"): 16 at most.
 pub fn insn_length(machine: &Machine, insn: &Insn) -> u8
-    requires { IsSound machine.now }
+    requires sound { IsSound machine.now }
+    requires insn { SoundInsn machine.now insn.now }
     ensures value { result ≡ spec.length_of machine.now insn.now }
     ensures few { result ≤ 16 }
 {
     let end = parts_end(machine, insn.parts.as_slice());
-    (end.max(machine.base_bits as u16) / 8) as u8
+    (end.max(machine.base_bits as u32) / 8) as u8
 }
 
 /// How many bytes the instruction of a number has.
+#[tactic(auto, using(crate::proofs::Matched::numbered))]
 pub fn length(machine: &Machine, i: u16) -> u8
     requires sound { IsSound machine.now }
     requires within { i < length machine.now.insns }
     ensures { result ≡ length_at machine.now i }
 {
-    insn_length(machine, &machine.insns.as_slice()[i as usize])
+    insn_length(machine, insn_at(machine, i))
 }

@@ -6,7 +6,6 @@ mod extracting;
 mod lengths;
 mod lookups;
 mod matching;
-mod pure;
 mod putting;
 
 pub use cg_model::Values;
@@ -14,4 +13,3 @@ pub use encoding::{NotInRange, encode};
 pub use extracting::extract;
 pub use lengths::{insn_length, length};
 pub use matching::{asserted, matches};
-pub use pure::Evaluates;

@@ -5,9 +5,9 @@ ghost use Rattle.cg_model.specs.Matching as spec;
 ghost use Rattle.cg_model.specs.Sound.{IsSound, SoundInsn};
 
 use crate::lengths::insn_length;
-use crate::lookups::field_at;
-use crate::pure::Evaluates;
+use crate::lookups::{field_at, insn_at};
 use cg_model::{Insn, Machine, Part, field_bits};
+use cg_pure::pure_eval;
 
 /// Whether a constant stands in its field.
 #[tactic(auto, using(crate::proofs::Ends::inside))]
@@ -43,21 +43,21 @@ fn constants_stand(machine: &Machine, parts: &[Part], bytes: &[u8]) -> bool
 /// Whether bytes that hold an instruction meet its assertion (docs/LANGUAGE.md, "Encoding and
 /// matching"). It takes no memory.
 #[tactic(auto, using(crate::proofs::Around::asserting))]
-pub fn asserted<E: Evaluates>(machine: &Machine, insn: &Insn, bytes: &[u8]) -> bool
+pub fn asserted(machine: &Machine, insn: &Insn, bytes: &[u8]) -> bool
     requires sound { IsSound machine.now }
     requires insn { SoundInsn machine.now insn.now }
     requires long { spec.length_of machine.now insn.now ≤ length bytes.now }
     ensures { result ≡ spec.asserts machine.now insn.now bytes.now }
 {
     match &insn.assertion {
-        Some(rule) => E::pure_eval(machine, rule, None, 0, 0, bytes) != 0,
+        Some(rule) => pure_eval(machine, rule, None, 0, 0, bytes) != 0,
         None => true,
     }
 }
 
 /// Whether an instruction matches bytes that are as long as it.
 #[tactic(auto, using(crate::proofs::Matched::matching))]
-fn matches_insn<E: Evaluates>(machine: &Machine, insn: &Insn, bytes: &[u8]) -> bool
+fn matches_insn(machine: &Machine, insn: &Insn, bytes: &[u8]) -> bool
     requires sound { IsSound machine.now }
     requires insn { SoundInsn machine.now insn.now }
     ensures { result ≡ spec.matches machine.now insn.now bytes.now }
@@ -65,16 +65,16 @@ fn matches_insn<E: Evaluates>(machine: &Machine, insn: &Insn, bytes: &[u8]) -> b
     if bytes.len() < insn_length(machine, insn) as usize {
         return false;
     }
-    constants_stand(machine, insn.parts.as_slice(), bytes) && asserted::<E>(machine, insn, bytes)
+    constants_stand(machine, insn.parts.as_slice(), bytes) && asserted(machine, insn, bytes)
 }
 
 /// Whether the instruction of a number matches bytes (docs/LANGUAGE.md, "Encoding and
 /// matching"). It takes no memory.
-#[tactic(auto, using(crate::proofs::Matched::matching))]
-pub fn matches<E: Evaluates>(machine: &Machine, i: u16, bytes: &[u8]) -> bool
+#[tactic(auto, using(crate::proofs::Matched::numbered))]
+pub fn matches(machine: &Machine, i: u16, bytes: &[u8]) -> bool
     requires sound { IsSound machine.now }
     requires within { i < length machine.now.insns }
     ensures { result ≡ matches_at machine.now i bytes.now }
 {
-    matches_insn::<E>(machine, &machine.insns.as_slice()[i as usize], bytes)
+    matches_insn(machine, insn_at(machine, i), bytes)
 }

@@ -1,15 +1,17 @@
 -- How code gathers the constants of a format.
-use Rattle.std.proofs.Common.{suc, map, ◌≡◌, ℕ, ◌+◌, ◌<◌, ◌≤◌, bit_or, List, [], ◌∷◌, length, drop, get_or, Some, slice_get, sym, ap, ◌∙◌, subst, arith}
+use Rattle.std.proofs.Common.{suc, map, ◌≡◌, ℕ, ◌+◌, ◌<◌, ◌≤◌, bit_or, List, [], ◌∷◌, length, drop, get_or, Bool, true, Some, slice_get, sym, ap, ◌∙◌, subst, arith}
 use Rattle.std.proofs.lemmas.Nat.Bits.{bit_at_or, bit_at-zero, same_from_bits}
+use Rattle.std.proofs.lemmas.Bool.Decides.{nat_tests}
 use Rattle.std.proofs.Math.Seq.{drop-cons}
 use Rattle.std.proofs.lemmas.List.{drop_all}
 use Rattle.cg_model.specs.declared.rtl.Rtl.{Rtl, out-Rtl, fold_out-Rtl}
 use Rattle.cg_model.specs.declared.field.Field.{Field}
 use Rattle.cg_model.specs.declared.insn.Part.{Part}
+use Rattle.cg_model.specs.declared.insn.Part.TheVariants.{Constant}
 use Rattle.cg_model.specs.declared.machine.Machine.{Machine}
-use Rattle.cg_model.specs.Covers.{IsPlaced}
-use Rattle.cg_model.specs.Covers.{ArePlaced, own_bits, all_bits, named_step, named_bits}
-use Rattle.cg_view.specs.Constants.{AreFitting, part_cover, part_value, parts_cover, parts_value}
+use Rattle.cg_model.specs.Covers.{IsInWord, IsPlaced, is_near}
+use Rattle.cg_model.specs.Covers.{own_bits, all_bits, named_step, named_bits}
+use Rattle.cg_view.specs.Constants.{IsFitting, AreFitting, part_cover, part_value, parts_cover, parts_value}
 
 pub or_assoc : (a b c : ℕ) → bit_or (bit_or a b) c ≡ bit_or a (bit_or b c)
 or_assoc a b c = same_from_bits _ _ (λ i. simp bit_at_or (omega arith))
@@ -20,8 +22,10 @@ or_zero a = same_from_bits _ _ (λ i. simp (bit_at_or, bit_at-zero) (omega arith
 pub zero_or : (a : ℕ) → bit_or 0 a ≡ a
 zero_or a = same_from_bits _ _ (λ i. simp (bit_at_or, bit_at-zero) (omega arith))
 
-pub placed_field : (m : Machine) (k : ℕ) (f : Field) → slice_get m.fields k ≡ Some f → ArePlaced m → IsPlaced f
-placed_field m k f is at = at.each k f is
+pub near_placed : (f : Field) → IsInWord f → is_near f ≡ true → IsPlaced f
+near_placed f w near =
+    let le : f.word_offset + f.word_bits ≤ 128 = grind (arith, nat_tests) in
+    record { bytes = w.bytes; offset = w.offset; some = w.some; few = w.few; inside = le; own = w.own; within = w.within }
 
 -- what is gathered, with what is still to come, is all
 pub record Gathered (m : Machine) (all rest : List Part) (cover value : ℕ) : Type 0 where
@@ -74,7 +78,10 @@ names_at_end m r items i bits past so_far =
     let last : StillNamed m r [] bits = subst (λ rest. StillNamed m r rest bits) (drop_all i items past) so_far in
     sym (or_zero bits) ∙ last.all
 
-pub ruleset of_part = (placed_field)
+pub constant_placed : (m : Machine) (p : Part) (k v : ℕ) (f : Field) → p ≡ Constant k v → IsFitting m p → slice_get m.fields k ≡ Some f → IsPlaced f
+constant_placed m p k v f is fits at = (subst (IsFitting m) is fits f at).1
+
+pub ruleset of_part = (near_placed)
 
 pub ruleset of_parts = (or_assoc, or_zero, zero_or, gather, gathered_cover, gathered_value)
 

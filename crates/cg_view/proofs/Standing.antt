@@ -14,7 +14,7 @@ use Rattle.cg_model.specs.Matching.{part_stands}
 use Rattle.cg_view.specs.View.{whole}
 use Rattle.cg_model.specs.Clashing.{AreBytes}
 use Rattle.cg_model.specs.Covers.{IsPlaced}
-use Rattle.cg_model.specs.Covers.{ArePlaced, field_cover}
+use Rattle.cg_model.specs.Covers.{field_cover}
 use Rattle.cg_view.specs.Constants.{field_placed, part_cover, part_value, parts_cover, parts_value, IsFitting, AreFitting}
 use Rattle.cg_view.proofs.FieldLaws.{stands_in_whole, stands_in_field, placed_inside}
 
@@ -64,39 +64,39 @@ field_inside : (m : Machine) (o : Option Field) (v : ℕ) → Fine m o v → bit
 field_inside m None v fine = no_bits 0
 field_inside m (Some f) v fine = placed_inside m f v (fine.at f refl) (fine.fits f refl)
 
-part_to_whole : (m : Machine) (p : Part) (bytes : List ℕ) → ArePlaced m → IsFitting m p → AreBytes bytes → part_stands m bytes p ≡ true → bit_and (whole bytes) (part_cover m p) ≡ part_value m p
-part_to_whole m (Constant field v) bytes at fits h stands = field_to_whole m (slice_get m.fields field) bytes v (record { at = at.each field; fits = fits }) h stands
-part_to_whole m (Slot s) bytes at fits h stands = no_bits (whole bytes)
+part_to_whole : (m : Machine) (p : Part) (bytes : List ℕ) → IsFitting m p → AreBytes bytes → part_stands m bytes p ≡ true → bit_and (whole bytes) (part_cover m p) ≡ part_value m p
+part_to_whole m (Constant field v) bytes fits h stands = field_to_whole m (slice_get m.fields field) bytes v (record { at = λ f is. (fits f is).1; fits = λ f is. (fits f is).0 }) h stands
+part_to_whole m (Slot s) bytes fits h stands = no_bits (whole bytes)
 
-part_from_whole : (m : Machine) (p : Part) (bytes : List ℕ) → ArePlaced m → IsFitting m p → AreBytes bytes → bit_and (whole bytes) (part_cover m p) ≡ part_value m p → part_stands m bytes p ≡ true
-part_from_whole m (Constant field v) bytes at fits h same = field_from_whole m (slice_get m.fields field) bytes v (record { at = at.each field; fits = fits }) h same
-part_from_whole m (Slot s) bytes at fits h same = refl
+part_from_whole : (m : Machine) (p : Part) (bytes : List ℕ) → IsFitting m p → AreBytes bytes → bit_and (whole bytes) (part_cover m p) ≡ part_value m p → part_stands m bytes p ≡ true
+part_from_whole m (Constant field v) bytes fits h same = field_from_whole m (slice_get m.fields field) bytes v (record { at = λ f is. (fits f is).1; fits = λ f is. (fits f is).0 }) h same
+part_from_whole m (Slot s) bytes fits h same = refl
 
-part_inside : (m : Machine) (p : Part) → ArePlaced m → IsFitting m p → bit_and (part_value m p) (part_cover m p) ≡ part_value m p
-part_inside m (Constant field v) at fits = field_inside m (slice_get m.fields field) v (record { at = at.each field; fits = fits })
-part_inside m (Slot s) at fits = no_bits 0
+part_inside : (m : Machine) (p : Part) → IsFitting m p → bit_and (part_value m p) (part_cover m p) ≡ part_value m p
+part_inside m (Constant field v) fits = field_inside m (slice_get m.fields field) v (record { at = λ f is. (fits f is).1; fits = λ f is. (fits f is).0 })
+part_inside m (Slot s) fits = no_bits 0
 
-pub parts_inside : (m : Machine) (ps : List Part) → ArePlaced m → AreFitting m ps → bit_and (parts_value m ps) (parts_cover m ps) ≡ parts_value m ps
-parts_inside m [] at fits = no_bits 0
-parts_inside m (p ∷ ps) at fits =
+pub parts_inside : (m : Machine) (ps : List Part) → AreFitting m ps → bit_and (parts_value m ps) (parts_cover m ps) ≡ parts_value m ps
+parts_inside m [] fits = no_bits 0
+parts_inside m (p ∷ ps) fits =
     let c : ℕ = part_cover m p in
     let d : ℕ = parts_cover m ps in
     let v : ℕ = part_value m p in
     let u : ℕ = parts_value m ps in
-    let e : bit_and v c ≡ v = part_inside m p at fits.0 in
-    let f : bit_and u d ≡ u = parts_inside m ps at fits.2 in
+    let e : bit_and v c ≡ v = part_inside m p fits.0 in
+    let f : bit_and u d ≡ u = parts_inside m ps fits.2 in
     same_from_bits _ _ (λ i. simp (bit_at_and, bit_at_or) (omega (arith, and_bit v c v i e, and_bit u d u i f)))
 
 -- The constants stand in the bytes exactly where they stand in the whole.
-pub parts_to_whole : (m : Machine) (ps : List Part) (bytes : List ℕ) → ArePlaced m → AreFitting m ps → AreBytes bytes → list_all (part_stands m bytes) ps ≡ true → bit_and (whole bytes) (parts_cover m ps) ≡ parts_value m ps
-parts_to_whole m [] bytes at fits h stands = no_bits (whole bytes)
-parts_to_whole m (p ∷ ps) bytes at fits h stands =
+pub parts_to_whole : (m : Machine) (ps : List Part) (bytes : List ℕ) → AreFitting m ps → AreBytes bytes → list_all (part_stands m bytes) ps ≡ true → bit_and (whole bytes) (parts_cover m ps) ≡ parts_value m ps
+parts_to_whole m [] bytes fits h stands = no_bits (whole bytes)
+parts_to_whole m (p ∷ ps) bytes fits h stands =
     join (whole bytes) (part_cover m p) (parts_cover m ps) (part_value m p) (parts_value m ps)
-    (part_to_whole m p bytes at fits.0 h (first_true (part_stands m bytes p) _ stands))
-    (parts_to_whole m ps bytes at fits.2 h (second_true (part_stands m bytes p) _ stands))
+    (part_to_whole m p bytes fits.0 h (first_true (part_stands m bytes p) _ stands))
+    (parts_to_whole m ps bytes fits.2 h (second_true (part_stands m bytes p) _ stands))
 
-pub parts_from_whole : (m : Machine) (ps : List Part) (bytes : List ℕ) → ArePlaced m → AreFitting m ps → AreBytes bytes → bit_and (whole bytes) (parts_cover m ps) ≡ parts_value m ps → list_all (part_stands m bytes) ps ≡ true
-parts_from_whole m [] bytes at fits h same = refl
-parts_from_whole m (p ∷ ps) bytes at fits h same =
-    let two = split (whole bytes) (part_cover m p) (parts_cover m ps) (part_value m p) (parts_value m ps) (part_inside m p at fits.0) (parts_inside m ps at fits.2) fits.1 same in
-    both_true (part_stands m bytes p) _ (part_from_whole m p bytes at fits.0 h two.0) (parts_from_whole m ps bytes at fits.2 h two.1)
+pub parts_from_whole : (m : Machine) (ps : List Part) (bytes : List ℕ) → AreFitting m ps → AreBytes bytes → bit_and (whole bytes) (parts_cover m ps) ≡ parts_value m ps → list_all (part_stands m bytes) ps ≡ true
+parts_from_whole m [] bytes fits h same = refl
+parts_from_whole m (p ∷ ps) bytes fits h same =
+    let two = split (whole bytes) (part_cover m p) (parts_cover m ps) (part_value m p) (parts_value m ps) (part_inside m p fits.0) (parts_inside m ps fits.2) fits.1 same in
+    both_true (part_stands m bytes p) _ (part_from_whole m p bytes fits.0 h two.0) (parts_from_whole m ps bytes fits.2 h two.1)

@@ -43,12 +43,12 @@ front_bytes n bytes h = record {
 }
 
 -- a bit of the whole
-whole_bit : (bytes : List ℕ) (q : ℕ) → AreBytes bytes → q < 128 → bit_at (whole bytes) q ≡ bit_at (slice_index bytes (15 - q / 8)) (q % 8)
+pub whole_bit : (bytes : List ℕ) (q : ℕ) → AreBytes bytes → q < 128 → bit_at (whole bytes) q ≡ bit_at (slice_index bytes (15 - q / 8)) (q % 8)
 unfolding whole
 whole_bit bytes q h below = let at : 0 + (15 - q / 8) ≡ 15 - q / 8 = omega arith in big_bit 16 0 q bytes h (omega arith) ∙ ap (λ k. bit_at (slice_index bytes k) (q % 8)) at
 
 -- a multiple of 2 ^ k has no bit below place k
-low_bit : (w k q : ℕ) → w % 2 ^ k ≡ 0 → q < k → bit_at w q ≡ 0
+pub low_bit : (w k q : ℕ) → w % 2 ^ k ≡ 0 → q < k → bit_at w q ≡ 0
 low_bit w k q e below =
     sym (ap (λ x. bit_at x q) (div-add-mod' w (2 ^ k))) ∙ bit_at_cat_low (w / 2 ^ k) k (w % 2 ^ k) q below ∙ ap (λ x. bit_at x q) e ∙ bit_at-zero q
 

@@ -5,7 +5,7 @@ use Rattle.cg_model.specs.declared.insn.Part.{Part}
 use Rattle.cg_model.specs.declared.insn.Part.TheVariants.{Constant, Slot}
 use Rattle.cg_model.specs.declared.machine.Machine.{Machine}
 use Rattle.cg_view.specs.View.{placed}
-use Rattle.cg_model.specs.Covers.{field_cover}
+use Rattle.cg_model.specs.Covers.{IsPlaced, field_cover}
 
 abbrev pub field_placed : Machine → Option Field → ℕ → ℕ
 field_placed m None v = 0
@@ -29,9 +29,9 @@ abbrev pub parts_value : Machine → List Part → ℕ
 parts_value m [] = 0
 parts_value m (p ∷ ps) = bit_or (part_value m p) (parts_value m ps)
 
--- A constant's number fits its field.
+-- A constant's number fits its field, which lies in the 16 bytes.
 abbrev pub IsFitting : Machine → Part → Type 0
-IsFitting m (Constant field value) = (f : Field) → slice_get m.fields field ≡ Some f → value < 2 ^ f.length
+IsFitting m (Constant field value) = (f : Field) → slice_get m.fields field ≡ Some f → (value < 2 ^ f.length) × IsPlaced f
 IsFitting m (Slot s) = Unit {0}
 
 -- Constants fit their fields, and no two of them cover one bit.

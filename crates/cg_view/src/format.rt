@@ -1,5 +1,5 @@
-ghost use Rattle.std.specs.Prelude.{◌≡◌, ◌<◌, ◌^◌};
-ghost use Rattle.cg_model.specs.Covers.{ArePlaced, named_bits, own_bits};
+ghost use Rattle.std.specs.Prelude.{◌≡◌, ◌<◌, ◌^◌, Some};
+ghost use Rattle.cg_model.specs.Covers.{AreInWords, IsInWord, is_near, near_cover, named_bits, own_bits};
 ghost use Rattle.cg_view.specs.Constants.{IsFitting, AreFitting, part_cover, part_value, parts_cover, parts_value};
 ghost use Rattle.std.specs.Option.{option_copied};
 ghost use Rattle.cg_model.specs.Operators.{at_number};
@@ -20,7 +20,6 @@ pub struct Constants {
 /// What a part of a format says of the bits.
 #[tactic(auto, using(crate::proofs::Formats::of_part))]
 pub fn part_constants(machine: &Machine, part: Part) -> Constants
-    requires placed { ArePlaced machine.now }
     requires fitting { IsFitting machine.now part }
     ensures cover { result.cover ≡ part_cover machine.now part }
     ensures value { result.value ≡ part_value machine.now part }
@@ -39,7 +38,6 @@ pub fn part_constants(machine: &Machine, part: Part) -> Constants
 /// The constants of a format.
 #[tactic(auto, using(crate::proofs::Formats::of_parts))]
 pub fn constants_of(machine: &Machine, insn: &Insn) -> Constants
-    requires placed { ArePlaced machine.now }
     requires fitting { AreFitting machine.now insn.now.parts }
     ensures cover { result.cover ≡ parts_cover machine.now insn.now.parts }
     ensures value { result.value ≡ parts_value machine.now insn.now.parts }
@@ -63,15 +61,34 @@ fn field_named<'a>(machine: &'a Machine, rtl: &Rtl) -> Option<&'a Field>
     machine.fields.get(rtl.number as usize)
 }
 
-/// The bits of the field that an expression is, where it is one.
+/// Whether a field's word lies within the 16 bytes that an instruction may have.
+pub fn lies_near(field: &Field) -> bool
+    ensures { result ≡ is_near field.now }
+{
+    field.word_offset as u32 + field.word_bits as u32 <= 128
+}
+
+/// The bits of a field that lies within 16 bytes.
 #[tactic(auto, using(crate::proofs::Formats::of_part))]
+fn near_bits(machine: &Machine, field: &Field) -> u128
+    requires { IsInWord field.now }
+    ensures { result ≡ near_cover machine.now (Some field.now) }
+{
+    if lies_near(field) {
+        cover(machine, field)
+    } else {
+        0
+    }
+}
+
+/// The bits of the field that an expression is, where it is one.
 fn own_named(machine: &Machine, rtl: &Rtl) -> u128
-    requires { ArePlaced machine.now }
+    requires { AreInWords machine.now }
     ensures { result ≡ own_bits machine.now (out-Rtl rtl.now).op (out-Rtl rtl.now).number }
 {
     if rtl.op == Op::FieldRef {
         return match field_named(machine, rtl) {
-            Some(field) => cover(machine, field),
+            Some(field) => near_bits(machine, field),
             None => 0,
         };
     }
@@ -81,7 +98,7 @@ fn own_named(machine: &Machine, rtl: &Rtl) -> u128
 /// The bits that an expression names.
 #[tactic(auto, using(crate::proofs::Formats::of_items))]
 pub fn named(machine: &Machine, rtl: &Rtl) -> u128
-    requires { ArePlaced machine.now }
+    requires { AreInWords machine.now }
     ensures { result ≡ named_bits machine.now rtl.now }
 {
     let mut bits = own_named(machine, rtl);
