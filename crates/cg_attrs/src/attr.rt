@@ -43,15 +43,16 @@ pub(crate) enum Said<'a> {
     Names(&'a [Form]),
 }
 
-/// Whether the attribute's value is a set of names.
-fn is_bitset(name: &[u8]) -> bool
+/// Whether the attribute of this name is a set of words: `MACH` or `ISA`.
+pub fn is_bitset(name: &[u8]) -> bool
     ensures { result ≡ is_bitset name.now }
 {
     matches!(name, b"MACH" | b"ISA")
 }
 
-/// Whether the attribute is known as a flag.
-fn is_known_flag(name: &[u8]) -> bool
+/// Whether the attribute of this name is known as a flag, without a definition (docs/LANGUAGE.md,
+/// "Attributes").
+pub fn is_known_flag(name: &[u8]) -> bool
     ensures { result ≡ is_known_flag name.now }
 {
     is_among(KNOWN_FLAGS.as_slice(), name)
@@ -236,8 +237,8 @@ fn owned(alloc: Global, name: &[u8], said: Said<'_>) -> Result<Attr, NoMemory>
     })
 }
 
-/// The attributes among the forms.
-pub(crate) fn attrs_among(alloc: Global, forms: &[Form]) -> Result<List<Attr>, NoMemory>
+/// The attributes among the forms, in order. A form that is none is left out.
+pub fn attrs_among(alloc: Global, forms: &[Form]) -> Result<List<Attr>, NoMemory>
     ensures { IfOk result (λ attrs. attrs ≡ filter_map attr_of forms.now) }
 {
     let mut attrs = List::new(alloc);

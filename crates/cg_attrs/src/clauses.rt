@@ -290,9 +290,10 @@ fn first_absent<C>(rows: &[Row<C>], elements: &[Form]) -> Option<&'static [u8]>
     None
 }
 
-/// The clause that an element is, where it doesn't count as absent.
+/// The clause that an element behind a form's head is, where it doesn't count as absent. None
+/// exactly where it does, or where it is no list that a symbol heads.
 #[tactic(auto, unfolding(crate::specs::Clauses::standing))]
-fn standing<'a>(elements: &'a [Form], form: &'a Form) -> Option<Clause<'a>>
+pub fn standing<'a>(elements: &'a [Form], form: &'a Form) -> Option<Clause<'a>>
     ensures { option_map seen_clause result ≡ standing elements.now form.now }
 {
     let (name, content) = form.headed()?;

@@ -185,8 +185,9 @@ fn valued(forms: &[Form]) -> Option<i64>
     }
 }
 
-/// The value of an item, where a name alone has the value `plain`.
-fn item_value(plain: Option<i64>, form: &Form) -> Option<i64>
+/// The value of an item of an enum or a keyword, where a name alone has the value `plain`. None
+/// exactly where the form is no item, or has no value of 64 bits.
+pub fn item_value(plain: Option<i64>, form: &Form) -> Option<i64>
     ensures { result ≡ item_value plain form.now }
 {
     match form {
@@ -196,8 +197,8 @@ fn item_value(plain: Option<i64>, form: &Form) -> Option<i64>
     }
 }
 
-/// The value behind this one, where it has 64 bits.
-fn next_value(value: i64) -> Option<i64>
+/// The value of a name alone behind an item of this value. None exactly where it has no 64 bits.
+pub fn next_value(value: i64) -> Option<i64>
     ensures { result ≡ next_value value }
 {
     if value < i64::MAX {

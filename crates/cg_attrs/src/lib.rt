@@ -11,9 +11,11 @@ mod lookup;
 mod read;
 mod table;
 
-pub use attr::{Attr, AttrValue, read_attrs};
-pub use clauses::{Clause, ContentKind, Role, Row, content_at};
-pub use content::{Content, are_items, is_item_name, is_small, misfit, only_elements};
+pub use attr::{Attr, AttrValue, attrs_among, is_bitset, is_known_flag, read_attrs};
+pub use clauses::{Clause, ContentKind, Role, Row, content_at, standing};
+pub use content::{
+    Content, are_items, is_item_name, is_small, item_value, misfit, next_value, only_elements,
+};
 pub use frame::{
     ArchForm, AttrForm, CpuForm, EnumForm, Frame, InsnEnumForm, IsaForm, KeywordForm, MachForm,
     ModelForm,

@@ -1,0 +1,52 @@
+//! E304 and E306 of the names in a form.
+
+ghost use Rattle.std.specs.Prelude.{◌≡◌};
+ghost use Rattle.std.specs.Option.{option_copied};
+ghost use Rattle.cg_base.specs.Refusing.{first};
+ghost use Rattle.cg_references.specs.Table.{known};
+ghost use Rattle.cg_references.specs.E304.{is_of_another_kind, of_another_kind};
+ghost use Rattle.cg_references.specs.E306.{is_undefined, undefined};
+
+use crate::finding::{Finding, found};
+use crate::names::Names;
+use crate::reference::Reference;
+
+/// Whether the name stands for something of another kind than its place takes.
+fn is_of_another_kind(names: &Names, reference: &Reference) -> bool
+    ensures { result ≡ is_of_another_kind (known names.now) reference.now }
+{
+    found(names, reference.place, &reference.name) == Finding::OfAnotherKind
+}
+
+/// Whether the name stands for nothing.
+fn is_undefined(names: &Names, reference: &Reference) -> bool
+    ensures { result ≡ is_undefined (known names.now) reference.now }
+{
+    found(names, reference.place, &reference.name) == Finding::Undefined
+}
+
+/// The text of the first E304 of these names: one that stands for something of another kind than its
+/// place takes. None exactly where there is none (docs/REFUSALS.md).
+pub fn first_of_another_kind<'a>(names: &Names, references: &'a [Reference]) -> Option<&'a [u8]>
+    ensures { option_copied result ≡ first (of_another_kind (known names.now) references.now) }
+{
+    for reference in references {
+        if is_of_another_kind(names, reference) {
+            return Some(reference.name.as_slice());
+        }
+    }
+    None
+}
+
+/// The text of the first E306 of these names: one that stands for nothing that the machine has. None
+/// exactly where there is none (docs/REFUSALS.md).
+pub fn first_undefined<'a>(names: &Names, references: &'a [Reference]) -> Option<&'a [u8]>
+    ensures { option_copied result ≡ first (undefined (known names.now) references.now) }
+{
+    for reference in references {
+        if is_undefined(names, reference) {
+            return Some(reference.name.as_slice());
+        }
+    }
+    None
+}
