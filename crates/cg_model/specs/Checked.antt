@@ -1,5 +1,5 @@
 -- The mode of each expression, and the first fault where it has none. Expressions are judged from left to right.
-use Rattle.std.specs.Prelude.{ℕ, ◌-◌, ◌/◌, ◌^◌, Bool, true, false, not, ◌&&◌, ◌||◌, ◌==◌, nat_le, nat_lt, if◌then◌else◌, List, [], ◌∷◌, ◌++◌, map, length, take, drop, ℤ, pos, neg_ℤ, int_le, unsigned_abs, Option, Some, None, Result, Ok, Err}
+use Rattle.std.specs.Prelude.{ℕ, ◌-◌, ◌/◌, ◌^◌, Bool, true, false, not, ◌&&◌, ◌==◌, nat_le, nat_lt, if◌then◌else◌, List, [], ◌∷◌, ◌++◌, map, length, take, drop, ℤ, pos, neg_ℤ, int_le, unsigned_abs, Option, Some, None, Result, Ok, Err}
 use Rattle.std.specs.Option.{option_or, unwrap_or}
 use Rattle.cg_base.specs.declared.Mode.{Mode}
 use Rattle.cg_base.specs.declared.Mode.TheVariants.{Bi, Usi, Void}
@@ -8,7 +8,7 @@ use Rattle.cg_base.specs.declared.UnaryOp.TheVariants.{Not}
 use Rattle.cg_base.specs.declared.BinaryOp.{BinaryOp}
 use Rattle.cg_base.specs.declared.TernaryOp.{TernaryOp}
 use Rattle.cg_base.specs.Modes.{bits_of}
-use Rattle.cg_model.specs.Placed.{Level, hardware_of, is_set, rule_of, delays_op, any_item, rule_delays, small}
+use Rattle.cg_model.specs.Placed.{Level, hardware_of, delays, small}
 use Rattle.cg_model.specs.Operators.{word_mode, address_mode, at_number, unary_ops, binary_ops, ternary_ops, kind_of, keeps_mode}
 use Rattle.cg_model.specs.declared.hardware.HwKind.TheVariants as kind
 use Rattle.cg_model.specs.declared.hardware.Hardware.{Hardware}
@@ -81,13 +81,12 @@ beyond x = record x { outside = true }
 abbrev pub from_outside : Locals → Locals
 from_outside l = map beyond l
 
--- An expression as it is judged: itself; where it is an arm, its tests and then its expressions but the last; whether a `delay` or a
--- halt stands in it where it is a place, and where it isn't; and its mode, by the locals around and the mode that is wanted of it.
+-- An expression as it is judged: itself; where it is an arm, its tests and then its expressions but the last; and its mode, by the
+-- locals around and the mode that is wanted of it.
 pub record Checked : Type 0 where
   pub said : Level
   pub asked : Locals → Verdict
   pub front : Locals → Verdict
-  pub delays : Bool → Bool
   pub verdict : Locals → Option Mode → Verdict
 
 abbrev pub is_number : Op → Bool
@@ -301,11 +300,11 @@ set_mode m d e l =
     else Err (fault 403)
 
 -- A delay is of 1 to 8, and of what has no value. No other `delay` and no halt stands in it, rules put in place.
-abbrev pub delayed : Checked → Mode → Verdict
-delayed x k = if bits_of k == 0 && not (x.delays false) then Ok Void else Err (fault 402)
+abbrev pub delayed : Machine → Checked → Mode → Verdict
+delayed m x k = if bits_of k == 0 && not (delays m (roll-Rtl x.said)) then Ok Void else Err (fault 402)
 
-abbrev pub delay_mode : ℤ → Checked → Locals → Verdict
-delay_mode n x l = if int_le (pos 1) n && int_le n (pos 8) then and_then (x.verdict l None) (delayed x) else Err (fault 402)
+abbrev pub delay_mode : Machine → ℤ → Checked → Locals → Verdict
+delay_mode m n x l = if int_le (pos 1) n && int_le n (pos 8) then and_then (x.verdict l None) (delayed m x) else Err (fault 402)
 
 -- Wider, or as wide.
 abbrev pub wider : Mode → Mode → Verdict
@@ -384,7 +383,7 @@ verdict_of m op.Set written n (d ∷ e ∷ []) l want = set_mode m d e l
 verdict_of m op.Reg written n xs l want = and_then (each_any l xs) (λ k. hardware_mode (at_number m.hardware n))
 verdict_of m op.RawReg written n xs l want = and_then (each_any l xs) (λ k. hardware_mode (at_number m.hardware n))
 verdict_of m op.Mem (Some k) n (x ∷ []) l want = and_then (memory_mode k) (λ j. let a = address_mode m.word_bits in and_then (operand l a (Some a) x) (λ i. Ok k))
-verdict_of m op.Delay written n (x ∷ []) l want = delay_mode n x l
+verdict_of m op.Delay written n (x ∷ []) l want = delay_mode m n x l
 verdict_of m op.Nop written n xs l want = Ok Void
 verdict_of m op.Error written n xs l want = Ok (unwrap_or (option_or written want) Void)
 verdict_of m op.Halt written n (x ∷ []) l want = and_then (judged_any l x) (λ k. Ok Void)
@@ -393,15 +392,11 @@ verdict_of m _ written n xs l want = Err no_shape
 abbrev pub said_of : Rtl-F Checked → Level
 said_of f = record { op = f.op; mode = f.mode; number = f.number; items = map (λ x. roll-Rtl x.said) f.items }
 
-abbrev pub delays_step : Machine → Rtl-F Checked → Bool → Bool
-delays_step m f is_place = delays_op f.op || any_item (λ b x. x.delays b) (is_set f.op) f.items || rule_delays m (rule_of m is_place (said_of f))
-
 abbrev pub checked_step : Machine → Rtl-F Checked → Checked
 checked_step m f = record {
   said = said_of f;
   asked = λ l. each_value l (take (unsigned_abs f.number) f.items);
   front = λ l. if is_arm f.op then all_but_last l (drop (unsigned_abs f.number) f.items) else Err no_shape;
-  delays = delays_step m f;
   verdict = verdict_of m f.op f.mode f.number f.items;
 }
 

@@ -5,7 +5,7 @@ use Rattle.cg_base.specs.Grammar.{is_string_byte}
 use Rattle.cg_base.specs.Modes.{bits_of}
 use Rattle.cg_base.specs.declared.mode.Mode.{Mode}
 use Rattle.cg_model.specs.Operators.{address_mode}
-use Rattle.cg_model.specs.Slots.{is_register}
+use Rattle.cg_model.specs.Placed.{is_register}
 use Rattle.cg_model.specs.faults.E312.{is_in_word}
 use Rattle.cg_model.specs.faults.Judging.{mode_place}
 use Rattle.cg_model.specs.declared.field.Field.{Field}

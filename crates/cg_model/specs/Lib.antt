@@ -14,3 +14,14 @@ pub mod Asking
 pub mod Effects
 pub mod faults
 pub mod Formed
+pub mod Squeezing
+pub mod Spelling
+pub mod Splitting
+pub mod Choosing
+pub mod Lining
+pub mod Bundling
+pub mod Sourcing
+pub mod source
+pub mod Stating
+pub mod Imaging
+pub mod Listing

@@ -1,12 +1,17 @@
 -- Expressions with get and set rules put in place: the rules by which they read and set hardware count as standing in them.
-use Rattle.std.specs.Prelude.{ℕ, zero, suc, ◌+◌, Bool, true, false, ◌||◌, ◌&&◌, nat_le, if◌then◌else◌, List, [], ◌∷◌, ℤ, Option, Some, None, slice_get, option_map}
+use Rattle.std.specs.Prelude.{ℕ, zero, suc, ◌+◌, ◌*◌, Bool, true, false, ◌||◌, nat_le, if◌then◌else◌, List, [], ◌∷◌, ◌++◌, length, ℤ, pos, negsuc, Option, Some, None, slice_get, option_map}
+use Rattle.std.specs.List.{list_any}
 use Rattle.cg_model.specs.Operators.{at_number}
 use Rattle.cg_model.specs.declared.hardware.Hardware.{Hardware}
+use Rattle.cg_model.specs.declared.hardware.HwKind.{HwKind}
+use Rattle.cg_model.specs.declared.hardware.HwKind.TheVariants as kind
 use Rattle.cg_model.specs.declared.machine.Machine.{Machine}
+use Rattle.cg_model.specs.declared.operand.Operand.{Operand}
 use Rattle.cg_model.specs.declared.rtl.Op.{Op}
 use Rattle.cg_model.specs.declared.rtl.Op.TheVariants as op
 use Rattle.cg_model.specs.declared.rtl.Rtl.{Rtl, out-Rtl}
 use Rattle.cg_model.specs.declared.rtl.Rtl.TheOpen.{Rtl-F}
+use Rattle.cg_model.specs.declared.rtl.Rtl.TheFolds.{fold-Rtl}
 
 -- One level of an expression: its items are expressions.
 abbrev pub Level : Type 0
@@ -72,31 +77,89 @@ few (Some n) = nat_le n 4096
 unfoldable pub small : Machine → Rtl → Bool
 small m r = few (nodes_to m 64 false r)
 
+-- Hardware that has cells, which get and set rules may stand for.
+abbrev pub is_register : HwKind → Bool
+is_register kind.Register = true
+is_register _ = false
+
+-- A rule: that of the hardware of a number by which it is set, or that by which it is read.
+pub record RuleName : Type 0 where
+  pub hardware : ℕ
+  pub sets : Bool
+
+abbrev pub rule_named : Machine → RuleName → Option Rtl
+rule_named m r = elim (slice_get m.hardware r.hardware) [ None ↦ None | Some h ↦ if r.sets then h.set else h.get ]
+
+-- Hardware that is no register is read and set by no rule.
+abbrev pub of_register : Bool → ℕ → Option Hardware → List RuleName
+of_register sets k None = []
+of_register sets k (Some h) = if is_register h.kind then record { hardware = k; sets = sets } ∷ [] else []
+
+abbrev pub of_number : Machine → Bool → ℤ → List RuleName
+of_number m sets (pos k) = of_register sets k (slice_get m.hardware k)
+of_number m sets (negsuc k) = []
+
+abbrev pub of_operand : Machine → Bool → Option Operand → List RuleName
+of_operand m sets None = []
+of_operand m sets (Some o) = of_register sets o.hardware (slice_get m.hardware o.hardware)
+
+-- The rule by which an operation reads, or sets where it is the place of a `set`. A `raw-reg` goes by none.
+unfoldable pub needed_at : Machine → Bool → Op → ℤ → List RuleName
+needed_at m sets op.Reg n = of_number m sets n
+needed_at m sets op.OperandRef n = of_operand m sets (at_number m.operands n)
+needed_at m sets _ n = []
+
+abbrev pub AsPlace : Type 0
+AsPlace = Bool → List RuleName
+
+-- The first of these items may be a place.
+abbrev pub each_needed : Bool → List AsPlace → List RuleName
+each_needed first [] = []
+each_needed first (x ∷ xs) = x first ++ each_needed false xs
+
+abbrev pub needed_step : Machine → Rtl-F AsPlace → AsPlace
+needed_step m f = λ is_place. needed_at m is_place f.op f.number ++ each_needed (is_set f.op) f.items
+
+-- The rules that an expression needs at once.
+unfoldable pub needed_by : Machine → Rtl → AsPlace
+needed_by m rtl = fold-Rtl AsPlace (needed_step m) rtl
+
+abbrev pub needed_where : Machine → Option Rtl → List RuleName
+needed_where m None = []
+needed_where m (Some rtl) = needed_by m rtl false
+
+-- The rules that a rule needs at once.
+abbrev pub needed : Machine → RuleName → List RuleName
+needed m r = needed_where m (rule_named m r)
+
 -- A `delay` or a halt.
 abbrev pub delays_op : Op → Bool
 delays_op op.Delay = true
 delays_op op.Halt = true
 delays_op _ = false
 
--- Whether one of some items has it, by whether each has. The first may be a place.
-abbrev pub any_item : {A : Type 0} → (Bool → A → Bool) → Bool → List A → Bool
-any_item has is_place [] = false
-any_item has is_place (x ∷ xs) = has is_place x || any_item has false xs
+abbrev pub delays_step : Rtl-F Bool → Bool
+delays_step f = delays_op f.op || list_any (λ b. b) f.items
 
-abbrev pub any_rule : (Bool → Rtl → Bool) → Option Rtl → Bool
-any_rule has None = false
-any_rule has (Some rule) = has false rule
+-- One stands in an expression itself.
+unfoldable pub delays_itself : Rtl → Bool
+delays_itself rtl = fold-Rtl Bool delays_step rtl
 
--- Whether a `delay` or a halt stands in an expression, at most so deep, rules put in place.
-abbrev pub delays_to : Machine → ℕ → Bool → Rtl → Bool
-delays_to m zero is_place r = false
-delays_to m (suc depth) is_place r =
-    delays_op (out-Rtl r).op || any_item (delays_to m depth) (is_set (out-Rtl r).op) (out-Rtl r).items || any_rule (delays_to m depth) (rule_of m is_place (out-Rtl r))
+abbrev pub delays_where : Option Rtl → Bool
+delays_where None = false
+delays_where (Some rtl) = delays_itself rtl
 
-unfoldable pub delays_in : Machine → Rtl → Bool
-delays_in m r = delays_to m 64 false r
+-- One stands in one of some rules, where this tells it of each.
+abbrev pub one_delays : (RuleName → Bool) → List RuleName → Bool
+one_delays delays [] = false
+one_delays delays (r ∷ rs) = delays r || one_delays delays rs
 
--- Whether one stands in a rule that is put in place. A rule that isn't small isn't searched: what goes by it is too large.
-abbrev pub rule_delays : Machine → Option Rtl → Bool
-rule_delays m None = false
-rule_delays m (Some rule) = small m rule && delays_in m rule
+-- One stands in a rule, or in one that it needs in fewer than so many steps.
+abbrev pub rule_delays : Machine → ℕ → RuleName → Bool
+rule_delays m zero r = false
+rule_delays m (suc steps) r = delays_where (rule_named m r) || one_delays (rule_delays m steps) (needed m r)
+
+-- One stands in an expression, rules put in place. There are two rules for each hardware and none needs itself, so no more steps than that
+-- are needed.
+unfoldable pub delays : Machine → Rtl → Bool
+delays m rtl = delays_itself rtl || one_delays (rule_delays m (2 * length m.hardware)) (needed_by m rtl false)

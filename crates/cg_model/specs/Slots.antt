@@ -1,14 +1,13 @@
 -- The values of an instruction's slots, and what names of operands and fields give by them.
-use Rattle.std.specs.Prelude.{ℕ, ◌%◌, ◌^◌, Bool, true, false, ◌==◌, if◌then◌else◌, List, [], ◌∷◌, map, ℤ, pos, negsuc, Option, Some, None, slice_get}
+use Rattle.std.specs.Prelude.{ℕ, ◌%◌, ◌^◌, Bool, false, ◌==◌, if◌then◌else◌, List, [], ◌∷◌, map, ℤ, pos, negsuc, Option, Some, None, slice_get}
 use Rattle.cg_base.specs.declared.Mode.{Mode}
 use Rattle.cg_base.specs.declared.Mode.TheVariants.{Usi, Void}
 use Rattle.cg_base.specs.Modes.{bits_of}
 use Rattle.cg_base.specs.Operations.{converted}
 use Rattle.cg_model.specs.Fields.{decoded, field_value, multi_value}
+use Rattle.cg_model.specs.Placed.{is_register}
 use Rattle.cg_model.specs.declared.field.Field.{Field}
 use Rattle.cg_model.specs.declared.field.Multi.{Multi}
-use Rattle.cg_model.specs.declared.hardware.HwKind.{HwKind}
-use Rattle.cg_model.specs.declared.hardware.HwKind.TheVariants as kind
 use Rattle.cg_model.specs.declared.insn.Insn.{Insn}
 use Rattle.cg_model.specs.declared.insn.Part.{Part}
 use Rattle.cg_model.specs.declared.insn.Part.TheVariants.{Constant, Slot}
@@ -16,10 +15,6 @@ use Rattle.cg_model.specs.declared.machine.Machine.{Machine}
 use Rattle.cg_model.specs.declared.operand.Operand.{Operand}
 use Rattle.cg_model.specs.declared.operand.Source.{Source}
 use Rattle.cg_model.specs.declared.operand.Source.TheVariants as source
-
-abbrev pub is_register : HwKind → Bool
-is_register kind.Register = true
-is_register _ = false
 
 -- The mode of an operand's value: that of its hardware, but on a register the value is an index, and its mode is UINT.
 abbrev pub slot_mode : Machine → Operand → Mode

@@ -12,6 +12,7 @@ mod machine;
 mod operand;
 mod outcome;
 mod rtl;
+mod written;
 
 pub use bits::{extended, field_bits};
 pub use fault::{MachineFault, Purpose, Said};
@@ -24,3 +25,4 @@ pub use machine::{Alignment, Machine};
 pub use operand::{Operand, Source};
 pub use outcome::{Change, Due, Outcome, Place, Trap, Write};
 pub use rtl::{Op, Rtl};
+pub use written::{Mark, Sum, Term};

@@ -1,7 +1,7 @@
 -- E304, of a machine in hand: a `reg` or `raw-reg` whose hardware is neither a register nor the pc, and a get or set rule on
 -- hardware that is no register.
 use Rattle.std.specs.Prelude.{Bool, true, false, not, ◌&&◌, ◌||◌, is_some, [], ℤ, pos, negsuc, Some, None, slice_get}
-use Rattle.cg_model.specs.Slots.{is_register}
+use Rattle.cg_model.specs.Placed.{is_register}
 use Rattle.cg_model.specs.faults.Finding.{Faults, at_place, where_so, AtNode, in_nodes}
 use Rattle.cg_model.specs.declared.fault.Said.TheVariants as said
 use Rattle.cg_model.specs.declared.hardware.Hardware.{Hardware}

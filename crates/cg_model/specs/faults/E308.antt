@@ -7,9 +7,14 @@ use Rattle.cg_model.specs.declared.fault.Said.TheVariants.{Count}
 use Rattle.cg_model.specs.declared.field.Field.{Field}
 use Rattle.cg_model.specs.declared.field.Multi.{Multi}
 use Rattle.cg_model.specs.declared.hardware.Hardware.{Hardware}
+use Rattle.cg_model.specs.declared.hardware.Keyword.{Keyword}
+use Rattle.cg_model.specs.declared.hardware.NamedValue.{NamedValue}
 use Rattle.cg_model.specs.declared.insn.Insn.{Insn}
 use Rattle.cg_model.specs.declared.insn.MacroInsn.{MacroInsn}
+use Rattle.cg_model.specs.declared.insn.Piece.{Piece}
+use Rattle.cg_model.specs.declared.insn.Piece.TheVariants.{Literal, Slot}
 use Rattle.cg_model.specs.declared.machine.Machine.{Machine}
+use Rattle.cg_model.specs.declared.operand.Operand.{Operand}
 use Rattle.cg_model.specs.declared.rtl.Rtl.{Rtl}
 use Rattle.cg_model.specs.declared.rtl.Rtl.TheOpen.{Rtl-F}
 use Rattle.cg_model.specs.declared.rtl.Rtl.TheFolds.{fold-Rtl}
@@ -21,6 +26,30 @@ passing limit before now = where_so (nat_le before limit && nat_lt limit now) (a
 -- A limit of one element is passed.
 abbrev pub too_many : ℕ → ℕ → Faults
 too_many limit count = passing limit 0 count
+
+-- A text has too many bytes: one text, one of some, a word of hardware, and a literal of a syntax.
+abbrev pub long_text : List ℕ → Faults
+long_text text = too_many 4194304 (length text)
+
+abbrev pub long_texts : List (List ℕ) → Faults
+long_texts [] = []
+long_texts (t ∷ ts) = long_text t ++ long_texts ts
+
+abbrev pub long_words : List NamedValue → Faults
+long_words [] = []
+long_words (w ∷ ws) = long_text w.word ++ long_words ws
+
+abbrev pub long_words_where : Option Keyword → Faults
+long_words_where None = []
+long_words_where (Some k) = long_words k.words
+
+abbrev pub long_piece : Piece → Faults
+long_piece (Literal text) = long_text text
+long_piece (Slot s) = []
+
+abbrev pub long_literals : List Piece → Faults
+long_literals [] = []
+long_literals (p ∷ ps) = long_piece p ++ long_literals ps
 
 -- How many nodes an expression has, and some have together.
 abbrev pub sum_of : List ℕ → ℕ
@@ -76,16 +105,18 @@ words_of h = elim h.keyword [ None ↦ 0 | Some k ↦ length k.words ]
 
 -- Of elements that so many of their kind stand before, and so many nodes of expressions.
 abbrev pub of_field : ℕ → ℕ → Field → Faults
-of_field before spent f = passing 1024 before (suc before) ++ passing 1000000 spent (spent + field_nodes f)
+of_field before spent f = passing 1024 before (suc before) ++ passing 1000000 spent (spent + field_nodes f) ++ long_text f.name
 
 abbrev pub of_multi : ℕ → ℕ → Multi → Faults
-of_multi before spent x = passing 1024 before (suc before) ++ passing 1000000 spent (spent + multi_nodes x)
+of_multi before spent x = passing 1024 before (suc before) ++ passing 1000000 spent (spent + multi_nodes x) ++ long_text x.name
 
 abbrev pub of_hardware : ℕ → ℕ → ℕ → Hardware → Faults
-of_hardware before cells spent h = passing 256 before (suc before) ++ passing 65536 cells (cells + h.count) ++ too_many 1024 (words_of h) ++ passing 1000000 spent (spent + hardware_nodes h)
+of_hardware before cells spent h =
+    passing 256 before (suc before) ++ passing 65536 cells (cells + h.count) ++ too_many 1024 (words_of h) ++ passing 1000000 spent (spent + hardware_nodes h)
+    ++ long_text h.name ++ long_words_where h.keyword
 
-abbrev pub of_operand : ℕ → Faults
-of_operand before = passing 1024 before (suc before)
+abbrev pub of_operand : ℕ → Operand → Faults
+of_operand before o = passing 1024 before (suc before) ++ long_text o.name
 
 -- The limits of a syntax: its pieces and its slots.
 abbrev pub of_syntax : ℕ → ℕ → Faults
@@ -96,10 +127,10 @@ abbrev pub of_shape : Machine → Insn → Faults
 of_shape m i = of_syntax (length i.pieces) (length (slot_operands i.parts)) ++ too_many 16 (length_of m i) ++ too_many 67107840 i.cycles
 
 abbrev pub of_insn : ℕ → Insn → Faults
-of_insn spent i = passing 1000000 spent (spent + insn_nodes i)
+of_insn spent i = passing 1000000 spent (spent + insn_nodes i) ++ long_text i.name ++ long_literals i.pieces
 
 abbrev pub of_macro : ℕ → MacroInsn → Faults
-of_macro before x = passing 1024 before (suc before)
+of_macro before x = passing 1024 before (suc before) ++ long_text x.name ++ long_literals x.pieces
 
 abbrev pub of_texts : Machine → Faults
-of_texts m = too_many 1000000 (length m.texts)
+of_texts m = too_many 1000000 (length m.texts) ++ long_texts m.texts

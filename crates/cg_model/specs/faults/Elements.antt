@@ -50,9 +50,9 @@ abbrev pub of_all : (Rtl → Faults) → List Rtl → Faults
 of_all f [] = []
 of_all f (r ∷ rs) = f r ++ of_all f rs
 
--- The machine's own bundle field.
+-- The machine's own name and bundle field.
 abbrev pub of_bundle : Machine → Faults
-of_bundle m = e306.no_bundle m ++ no_bundle_bit m
+of_bundle m = e306.no_bundle m ++ e308.long_text m.name ++ no_bundle_bit m
 
 -- A field. So many of its kind stand before it, and so many nodes of expressions.
 abbrev pub of_field : Machine → ℕ → ℕ → Field → Faults
@@ -79,7 +79,7 @@ of_hardware m before cells spent h =
     ++ circular m before
 
 abbrev pub of_operand : Machine → ℕ → Operand → Faults
-of_operand m before o = e306.of_operand m o ++ e308.of_operand before
+of_operand m before o = e306.of_operand m o ++ e308.of_operand before o
 
 -- The expressions of an instruction.
 abbrev pub insn_cells : Machine → Insn → Faults
