@@ -2,18 +2,18 @@
 use Rattle.std.proofs.Common.{◌≡◌, Some, None, Ok, Err, false, true, ◌/◌, ◌==◌, min, take, drop, unsigned_abs, ℤ, add-one, ℕ, zero, suc, ◌+◌, ◌<◌, ◌≤◌, Bool, length, get_or, arith, List, [], ◌∷◌, map, Option, refl, ap, ◌∙◌, sym, subst, if◌then◌else◌}
 use Rattle.std.specs.Option.{unwrap_or}
 use Rattle.std.proofs.lemmas.Grind.{common_steps}
-use Rattle.std.proofs.Math.Nat.{div-zero}
 use Rattle.std.proofs.lemmas.List.{get_or-drop, length-drop, drop_more}
 use Rattle.cg_base.specs.declared.Mode.{Mode}
 use Rattle.cg_base.specs.declared.Mode.TheVariants.{Void}
 use Rattle.cg_model.specs.Operators.{word_mode}
-use Rattle.cg_model.specs.Checked.{Checked, Locals, Verdict, checked, checked_step, verdict_of, and_then, meets, each_value, each_part, part_turn, all_but_last, last_verdict, last_loose, is_loose, is_arm, taken_by, arm_choice, ends_with_else, fault, stated, judged_value, no_shape}
+use Rattle.cg_model.specs.Checked.{Checked, Locals, Verdict, checked, checked_step, verdict_of, and_then, meets, each_value, each_part, part_turn, all_but_last, last_verdict, last_loose, is_arm, taken_by, arm_choice, ends_with_else, fault, stated, judged_value, no_shape}
 use Rattle.cg_model.specs.declared.rtl.Op.TheVariants.{Arm, Cond, Case, Join}
 use Rattle.cg_model.specs.declared.machine.Machine.{Machine}
 use Rattle.cg_model.specs.declared.rtl.Rtl.{Rtl, out-Rtl}
 use Rattle.cg_model.specs.declared.rtl.Rtl.TheFolds.{fold_out-Rtl}
 use Rattle.cg_base.specs.Modes.{bits_of}
-use Rattle.cg_modes.specs.Arms.{filled, before, arm_turn, walked, valueless, led, firm_place, chosen, armed}
+use Rattle.cg_leaf.specs.Firm.{firm_place}
+use Rattle.cg_modes.specs.Arms.{filled, before, arm_turn, walked, valueless, led, chosen, armed}
 use Rattle.cg_modes.proofs.Laws.{verdict_out, said_is, take_map, drop_map, take_min, drop_min, meets_self}
 
 asked_out : (m : Machine) (r : Rtl) (l : Locals) → (checked m r).asked l ≡ each_value l (take (unsigned_abs (out-Rtl r).number) (map (checked m) (out-Rtl r).items))
@@ -95,29 +95,6 @@ pub arm_empty : (m : Machine) (r : Rtl) (l : Locals) (want : Option Mode) → (o
 arm_empty m r l want op h =
     verdict_out m r l want ∙ ap (λ o. verdict_of m o (out-Rtl r).mode (out-Rtl r).number (map (checked m) (out-Rtl r).items) l want) op
     ∙ rw (drop_map (checked m) (unsigned_abs (out-Rtl r).number) (out-Rtl r).items, none_from (unsigned_abs (out-Rtl r).number) (out-Rtl r).items h) refl
-
-loose_at : (xs : List Rtl) (i : ℕ) (d : Rtl) → i + 1 ≡ length xs → last_loose xs ≡ is_loose (out-Rtl (get_or xs i d))
-loose_at [] i d h = absurd (omega arith)
-loose_at (x ∷ []) zero d h = refl
-loose_at (x ∷ []) (suc i) d h = absurd (omega arith)
-loose_at (x ∷ y ∷ ys) zero d h = absurd (omega arith)
-loose_at (x ∷ y ∷ ys) (suc i) d h = loose_at (y ∷ ys) i d (omega arith)
-
-pub last_loose_at : (xs : List Rtl) (i : ℕ) (d : Rtl) → i + 1 ≡ length xs → last_loose xs ≡ is_loose (out-Rtl (get_or xs i d))
-last_loose_at xs i d h = loose_at xs i d h
-
-else_last : (xs : List Rtl) (i : ℕ) (d : Rtl) → i + 1 ≡ length xs → ends_with_else (map out-Rtl xs) ≡ (unsigned_abs (out-Rtl (get_or xs i d)).number == 0)
-else_last [] i d h = absurd (omega arith)
-else_last (x ∷ []) zero d h = refl
-else_last (x ∷ []) (suc i) d h = absurd (omega arith)
-else_last (x ∷ y ∷ ys) zero d h = absurd (omega arith)
-else_last (x ∷ y ∷ ys) (suc i) d h = else_last (y ∷ ys) i d (omega arith)
-
-pub else_at : (n : ℕ) (xs : List Rtl) (i : ℕ) (d : Rtl) → n < length xs → i + 1 ≡ length xs → ends_with_else (map out-Rtl (drop n xs)) ≡ (unsigned_abs (out-Rtl (get_or xs i d)).number == 0)
-else_at zero xs i d h j = else_last xs i d j
-else_at (suc n) [] i d h j = absurd (omega arith)
-else_at (suc n) (x ∷ xs) zero d h j = absurd (omega arith)
-else_at (suc n) (x ∷ xs) (suc i) d h j = else_at n xs i d (omega arith) (omega arith)
 
 pub arm_turn_is : (m : Machine) (l : Locals) (written : Option Mode) (lead : Verdict) (want : Option Mode) (r : Rtl) → arm_turn m l written lead want r ≡ (if last_loose (out-Rtl r).items then taken_by l (arm_choice true (checked m r)) lead else and_then ((checked m r).verdict l want) (λ k. and_then lead (λ mode. meets written mode k)))
 unfolding arm_turn
@@ -216,9 +193,6 @@ none_firm m l tested want (x ∷ xs) h = none_step m l tested want x xs (last_lo
 pub led_none : (m : Machine) (l : Locals) (tested : Bool) (want : Option Mode) (xs : List Rtl) (from first : ℕ) → first ≡ from + firm_place (drop from xs) → from ≤ length xs → length xs ≤ first → led m l tested want (drop from xs) ≡ Ok (unwrap_or want (word_mode m.word_bits))
 led_none m l tested want xs from first e j h = none_firm m l tested want (drop from xs) (omega (arith, length-drop from xs, e))
 
-pub place_more : (xs : List Rtl) (i : ℕ) (d : Rtl) → i < length xs → firm_place (drop i xs) ≡ (if last_loose (out-Rtl (get_or xs i d)).items then suc (firm_place (drop (i + 1) xs)) else 0)
-place_more xs i d h = ap firm_place (drop_more xs i d h)
-
 pub chosen_written : (m : Machine) (l : Locals) (tested : Bool) (k : Mode) (want : Option Mode) (xs : List Rtl) → chosen m l tested (Some k) want xs ≡ walked m l tested (Some k) (Ok k) (Some k) xs
 unfolding chosen walked
 chosen_written m l tested k want xs = refl
@@ -278,11 +252,12 @@ filled_is m l to part xs = rw (mapped m xs) refl
 pub part_more : (m : Machine) (l : Locals) (part : Mode) (xs : List Rtl) (i : ℕ) (d : Rtl) → i < length xs → each_part l part (map (checked m) (drop i xs)) ≡ and_then (part_turn l part (checked m (get_or xs i d))) (λ k. each_part l part (map (checked m) (drop (i + 1) xs)))
 part_more m l part xs i d h = ap (λ ys. each_part l part (map (checked m) ys)) (drop_more xs i d h)
 
-pub none_of_none : (n : ℕ) → n / 0 ≡ 0
-none_of_none n = div-zero n
+pub ruleset join_rules = (join_law, filled_is, part_more)
 
-pub ruleset arm_rules = (front_arm, front_other, before_tested, before_plain, test_more, but_last_end, but_last_more, arm_law, arm_empty, arm_turn_is, walked_more, walked_end, valueless_more, valueless_end, led_at, led_none, kept_at, chosen_written, chosen_led, armed_is, cond_law, case_law, join_law, filled_is, part_more)
+pub ruleset front_rules = (front_arm, front_other, before_tested, before_plain, test_more, but_last_end, but_last_more)
 
-pub ruleset place_rules = (common_steps, place_more, last_loose_at, else_at)
+pub ruleset turn_rules = (arm_law, arm_empty, arm_turn_is)
 
-pub ruleset part_rules = (common_steps, none_of_none)
+pub ruleset choice_rules = (walked_more, walked_end, led_at, led_none, kept_at, chosen_written, chosen_led)
+
+pub ruleset arm_rules = (valueless_more, valueless_end, armed_is, cond_law, case_law)

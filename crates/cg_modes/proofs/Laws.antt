@@ -2,10 +2,10 @@
 use Rattle.std.proofs.Common.{◌≡◌, Some, Ok, Err, false, ◌++◌, min, take, unsigned_abs, ℤ, true, add-one, ℕ, zero, suc, ◌+◌, ◌<◌, ◌≤◌, length, drop, get_or, None, arith, List, [], ◌∷◌, map, Option, refl, ap, ◌∙◌, sym, subst}
 use Rattle.std.proofs.lemmas.Grind.{common_steps}
 use Rattle.cg_base.specs.declared.Mode.{Mode}
-use Rattle.cg_modes.proofs.Scopes.{locals_parallel, locals_sequence}
+use Rattle.cg_leaf.proofs.Scopes.{locals_parallel, locals_sequence}
 use Rattle.cg_model.specs.Checked.{Checked, Locals, checked, checked_step, verdict_of, in_order, and_then, is_place, each_dropped, sequence_mode, local_of, is_loose, choices, plain_choice, choice_turn, meets}
 use Rattle.cg_model.specs.declared.rtl.Op.TheVariants.{Set, Sequence}
-use Rattle.cg_modes.specs.Scope.{declared_by}
+use Rattle.cg_leaf.specs.Scope.{declared_by}
 use Rattle.cg_modes.specs.Carried.{assigned, assigned_of, either, either_of}
 use Rattle.cg_model.specs.declared.judged.ModeFault.{ModeFault}
 use Rattle.cg_model.specs.declared.machine.Machine.{Machine}
@@ -136,4 +136,10 @@ pub either_second : (m : Machine) (r : Rtl) (l : Locals) (want : Option Mode) (x
 either_second m r l want x y k three written first second loose firm own =
     either_values m r l want x y three written first second ∙ second_leads m l want x y k loose firm (sym own)
 
-pub ruleset mode_rules = (common_steps, verdict_out, said_is, rolled_is, locals_parallel, locals_sequence, in_order_last, in_order_more, dropped_more)
+pub ruleset mode_rules = (common_steps, verdict_out, said_is)
+
+pub ruleset around_rules = (mode_rules, locals_parallel, locals_sequence)
+
+pub ruleset order_rules = (mode_rules, in_order_last, in_order_more, dropped_more)
+
+pub ruleset delay_rules = (mode_rules, rolled_is)

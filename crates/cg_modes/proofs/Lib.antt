@@ -1,4 +1,2 @@
-pub mod Scopes
 pub mod Laws
 pub mod Arms
-pub mod Rules

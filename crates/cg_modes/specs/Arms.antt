@@ -1,7 +1,7 @@
 -- The arms of a `cond` or a `case`, by the expressions that they are.
-use Rattle.std.specs.Prelude.{ℕ, suc, Bool, true, if◌then◌else◌, List, [], ◌∷◌, map, Option, None}
+use Rattle.std.specs.Prelude.{Bool, true, List, map, Option, None}
 use Rattle.cg_base.specs.declared.Mode.{Mode}
-use Rattle.cg_model.specs.Checked.{Locals, Verdict, checked, arm_choice, value_turn, each_choice, each_alone, leading_choice, choices, arms, ends_with_else, last_loose, joined_mode}
+use Rattle.cg_model.specs.Checked.{Locals, Verdict, checked, arm_choice, value_turn, each_choice, each_alone, leading_choice, choices, arms, ends_with_else, joined_mode}
 use Rattle.cg_model.specs.declared.machine.Machine.{Machine}
 use Rattle.cg_model.specs.declared.rtl.Rtl.{Rtl, out-Rtl}
 
@@ -24,11 +24,6 @@ valueless m l tested xs = each_alone l (map (arm_choice tested) (map (checked m)
 -- The mode that leads where none is written.
 unfoldable pub led : Machine → Locals → Bool → Option Mode → List Rtl → Verdict
 led m l tested want xs = leading_choice m l None want (map (arm_choice tested) (map (checked m) xs))
-
--- How many arms with a loose value stand in front.
-abbrev pub firm_place : List Rtl → ℕ
-firm_place [] = 0
-firm_place (x ∷ xs) = if last_loose (out-Rtl x).items then suc (firm_place xs) else 0
 
 -- Arms of which one is taken.
 unfoldable pub chosen : Machine → Locals → Bool → Option Mode → Option Mode → List Rtl → Verdict

@@ -1,4 +1,2 @@
-pub mod Scope
-pub mod Carried
 pub mod Arms
-pub mod Delays
+pub mod Carried

@@ -2,17 +2,18 @@ ghost use Rattle.std.specs.Prelude.{◌≡◌, ◌≤◌, ◌<◌, ◌+◌, [], 
 ghost use Rattle.cg_model.specs.declared.rtl.Rtl.{out-Rtl};
 ghost use Rattle.cg_model.specs.Checked as spec;
 ghost use Rattle.cg_model.specs.Checked.{checked, mode_in};
-ghost use Rattle.cg_modes.specs.Scope.{locals_of};
+ghost use Rattle.cg_leaf.specs.Firm.{firm_place};
+ghost use Rattle.cg_leaf.specs.Scope.{locals_of};
 ghost use Rattle.cg_modes.specs.Arms as Arms;
 ghost use Rattle.cg_modes.specs.Carried.{carried, shifted, assigned, either};
 
-use crate::scope::Scope;
-use crate::verdict::{
+use cg_base::{Mode, TernaryOp, UnaryOp, bits};
+use cg_leaf::scope::Scope;
+use cg_leaf::verdict::{
     Verdict, address, agrees, any_mode, fault, given, is_loose, meets, memory, narrower, no_shape,
     part, parts, same_bits, stated, valued, wider, word,
 };
-use crate::{leaf, named, placed};
-use cg_base::{Mode, TernaryOp, UnaryOp, bits};
+use cg_leaf::{leaf, named};
 use cg_model::{Kind, Machine, ModeFault, Op, Rtl};
 
 /// The mode of an expression that stands alone, of which this mode is wanted or none, or its first
@@ -20,12 +21,12 @@ use cg_model::{Kind, Machine, ModeFault, Op, Rtl};
 /// from left to right, else E406 where the expression is too large, and 304 for what is no
 /// expression of the language. Each expression in it is judged once, no rule is gone through for
 /// more than 4,096 nodes, and no memory is taken.
-#[tactic(auto, using(crate::proofs::Scopes::scope_rules))]
+#[tactic(auto, using(cg_leaf::proofs::Scopes::scope_rules))]
 pub fn mode_of(machine: &Machine, rtl: &Rtl, want: Option<Mode>) -> Result<Mode, ModeFault>
     ensures { result ≡ spec.mode_of machine.now rtl.now want }
 {
     let mode = judge(rtl, machine, &Scope::Outside, want)?;
-    if placed::is_small(machine, rtl) {
+    if cg_placed::is_small(machine, rtl) {
         Ok(mode)
     } else {
         Err(fault(406))
@@ -35,7 +36,7 @@ pub fn mode_of(machine: &Machine, rtl: &Rtl, want: Option<Mode>) -> Result<Mode,
 /// The mode of an expression outside of any `sequence`, or its first fault (docs/LANGUAGE.md,
 /// "Modes"), as `mode_of` gives it but for E406: how large it is, isn't asked. Each expression in
 /// it is judged once.
-#[tactic(auto, using(crate::proofs::Scopes::scope_rules))]
+#[tactic(auto, using(cg_leaf::proofs::Scopes::scope_rules))]
 pub fn mode_within(machine: &Machine, rtl: &Rtl, want: Option<Mode>) -> Result<Mode, ModeFault>
     ensures { result ≡ mode_in machine.now rtl.now [] want }
 {
@@ -44,7 +45,7 @@ pub fn mode_within(machine: &Machine, rtl: &Rtl, want: Option<Mode>) -> Result<M
 
 /// The mode of an expression among locals.
 #[cycle(modes)]
-#[tactic(auto, using(crate::proofs::Laws::mode_rules))]
+#[tactic(auto, using(crate::proofs::Laws::around_rules))]
 fn judge(rtl: &Rtl, machine: &Machine, scope: &Scope, want: Option<Mode>) -> Verdict
     ensures { result ≡ mode_in machine.now rtl.now (locals_of scope.now) want }
 {
@@ -363,7 +364,7 @@ fn assign(rtl: &Rtl, machine: &Machine, scope: &Scope) -> Verdict
 
 /// The first so many expressions, whose values are dropped.
 #[cycle(modes)]
-#[tactic(auto, using(crate::proofs::Laws::mode_rules))]
+#[tactic(auto, using(crate::proofs::Laws::order_rules))]
 fn first_dropped(items: &[Rtl], machine: &Machine, scope: &Scope, count: usize) -> Verdict
     requires { count ≤ length items.now }
     ensures { result ≡ spec.each_dropped (locals_of scope.now) (map (checked machine.now) (take count items.now)) }
@@ -376,7 +377,7 @@ fn first_dropped(items: &[Rtl], machine: &Machine, scope: &Scope, count: usize) 
 
 /// The expressions from a place on, of which the last has the wanted mode.
 #[cycle(modes)]
-#[tactic(auto, using(crate::proofs::Laws::mode_rules))]
+#[tactic(auto, using(crate::proofs::Laws::order_rules))]
 fn in_order(
     items: &[Rtl],
     machine: &Machine,
@@ -397,7 +398,7 @@ fn in_order(
 }
 
 #[cycle(modes)]
-#[tactic(auto, using(crate::proofs::Laws::mode_rules))]
+#[tactic(auto, using(crate::proofs::Laws::around_rules))]
 fn sequence(rtl: &Rtl, machine: &Machine, scope: &Scope, want: Option<Mode>) -> Verdict
     requires op { (out-Rtl rtl.now).op ≡ Op.Sequence }
     ensures { result ≡ mode_in machine.now rtl.now (locals_of scope.now) want }
@@ -430,7 +431,7 @@ fn mem(rtl: &Rtl, machine: &Machine, scope: &Scope, want: Option<Mode>) -> Verdi
 }
 
 #[cycle(modes)]
-#[tactic(auto, using(crate::proofs::Laws::mode_rules))]
+#[tactic(auto, using(crate::proofs::Laws::delay_rules))]
 fn delay(rtl: &Rtl, machine: &Machine, scope: &Scope, want: Option<Mode>) -> Verdict
     requires op { (out-Rtl rtl.now).op ≡ Op.Delay }
     ensures { result ≡ mode_in machine.now rtl.now (locals_of scope.now) want }
@@ -442,7 +443,7 @@ fn delay(rtl: &Rtl, machine: &Machine, scope: &Scope, want: Option<Mode>) -> Ver
         return Err(fault(402));
     }
     let mode = judge(x, machine, scope, None)?;
-    if bits(mode) == 0 && !placed::delays(x, machine, false) {
+    if bits(mode) == 0 && !cg_placed::delays(x, machine) {
         Ok(Mode::Void)
     } else {
         Err(fault(402))
@@ -538,7 +539,7 @@ fn conditional(rtl: &Rtl, machine: &Machine, scope: &Scope, want: Option<Mode>) 
 }
 
 #[cycle(modes)]
-#[tactic(auto, using(crate::proofs::Laws::mode_rules, crate::proofs::Arms::arm_rules))]
+#[tactic(auto, using(crate::proofs::Laws::mode_rules))]
 fn subword(rtl: &Rtl, machine: &Machine, scope: &Scope, want: Option<Mode>) -> Verdict
     requires op { (out-Rtl rtl.now).op ≡ Op.Subword }
     ensures { result ≡ mode_in machine.now rtl.now (locals_of scope.now) want }
@@ -552,7 +553,7 @@ fn subword(rtl: &Rtl, machine: &Machine, scope: &Scope, want: Option<Mode>) -> V
 }
 
 #[cycle(modes)]
-#[tactic(auto, using(crate::proofs::Laws::mode_rules, crate::proofs::Arms::arm_rules))]
+#[tactic(auto, using(crate::proofs::Laws::mode_rules, crate::proofs::Arms::join_rules))]
 fn join(rtl: &Rtl, machine: &Machine, scope: &Scope, want: Option<Mode>) -> Verdict
     requires op { (out-Rtl rtl.now).op ≡ Op.Join }
     ensures { result ≡ mode_in machine.now rtl.now (locals_of scope.now) want }
@@ -568,7 +569,7 @@ fn join(rtl: &Rtl, machine: &Machine, scope: &Scope, want: Option<Mode>) -> Verd
 
 /// Operands behind the first item that fill a value.
 #[cycle(modes)]
-#[tactic(auto, using(crate::proofs::Laws::mode_rules, crate::proofs::Arms::arm_rules))]
+#[tactic(auto, using(crate::proofs::Laws::mode_rules, crate::proofs::Arms::join_rules))]
 fn fill(items: &[Rtl], machine: &Machine, scope: &Scope, to: Mode, part: Mode) -> Verdict
     requires { 1 ≤ length items.now }
     ensures { result ≡ Arms.filled machine.now (locals_of scope.now) to part (drop 1 items.now) }
@@ -581,7 +582,7 @@ fn fill(items: &[Rtl], machine: &Machine, scope: &Scope, to: Mode, part: Mode) -
 }
 
 #[cycle(modes)]
-#[tactic(auto, using(crate::proofs::Laws::mode_rules, crate::proofs::Arms::arm_rules))]
+#[tactic(auto, using(crate::proofs::Laws::mode_rules, crate::proofs::Arms::join_rules))]
 fn each_part(items: &[Rtl], machine: &Machine, scope: &Scope, part: Mode) -> Verdict
     requires { 1 ≤ length items.now }
     ensures { result ≡ spec.each_part (locals_of scope.now) part (map (checked machine.now) (drop 1 items.now)) }
@@ -594,7 +595,7 @@ fn each_part(items: &[Rtl], machine: &Machine, scope: &Scope, part: Mode) -> Ver
 
 /// A part that is joined with others.
 #[cycle(modes)]
-#[tactic(auto, using(crate::proofs::Laws::mode_rules, crate::proofs::Arms::arm_rules))]
+#[tactic(auto, using(crate::proofs::Laws::mode_rules, crate::proofs::Arms::join_rules))]
 fn part_turn(rtl: &Rtl, machine: &Machine, scope: &Scope, part: Mode) -> Verdict
     ensures { result ≡ spec.part_turn (locals_of scope.now) part (checked machine.now rtl.now) }
 {
@@ -605,7 +606,7 @@ fn part_turn(rtl: &Rtl, machine: &Machine, scope: &Scope, part: Mode) -> Verdict
 
 /// The first so many expressions, which are tests.
 #[cycle(modes)]
-#[tactic(auto, using(crate::proofs::Laws::mode_rules, crate::proofs::Arms::arm_rules))]
+#[tactic(auto, using(crate::proofs::Laws::mode_rules, crate::proofs::Arms::front_rules))]
 fn first_tests(items: &[Rtl], machine: &Machine, scope: &Scope, count: usize) -> Verdict
     requires { count ≤ length items.now }
     ensures { result ≡ spec.each_value (locals_of scope.now) (map (checked machine.now) (take count items.now)) }
@@ -618,7 +619,7 @@ fn first_tests(items: &[Rtl], machine: &Machine, scope: &Scope, count: usize) ->
 
 /// The expressions from a place on but the last.
 #[cycle(modes)]
-#[tactic(auto, using(crate::proofs::Laws::mode_rules, crate::proofs::Arms::arm_rules))]
+#[tactic(auto, using(crate::proofs::Laws::order_rules, crate::proofs::Arms::front_rules))]
 fn all_but_last(items: &[Rtl], machine: &Machine, scope: &Scope, from: usize) -> Verdict
     requires { from ≤ length items.now }
     ensures { result ≡ spec.all_but_last (locals_of scope.now) (map (checked machine.now) (drop from items.now)) }
@@ -634,7 +635,7 @@ fn all_but_last(items: &[Rtl], machine: &Machine, scope: &Scope, from: usize) ->
 
 /// An arm's expressions but its tests and the last.
 #[cycle(modes)]
-#[tactic(auto, using(crate::proofs::Laws::mode_rules, crate::proofs::Arms::arm_rules))]
+#[tactic(auto, using(crate::proofs::Laws::mode_rules, crate::proofs::Arms::front_rules))]
 fn front(arm: &Rtl, machine: &Machine, scope: &Scope, count: usize) -> Verdict
     requires { count ≡ min (unsigned_abs (out-Rtl arm.now).number) (length (out-Rtl arm.now).items) }
     ensures { result ≡ (checked machine.now arm.now).front (locals_of scope.now) }
@@ -648,7 +649,7 @@ fn front(arm: &Rtl, machine: &Machine, scope: &Scope, count: usize) -> Verdict
 
 /// What is judged in front of an arm's value.
 #[cycle(modes)]
-#[tactic(auto, using(crate::proofs::Laws::mode_rules, crate::proofs::Arms::arm_rules))]
+#[tactic(auto, using(crate::proofs::Laws::mode_rules, crate::proofs::Arms::front_rules))]
 fn before(arm: &Rtl, machine: &Machine, scope: &Scope, tested: bool) -> Verdict
     ensures { result ≡ Arms.before machine.now tested (locals_of scope.now) arm.now }
 {
@@ -663,7 +664,7 @@ fn before(arm: &Rtl, machine: &Machine, scope: &Scope, tested: bool) -> Verdict
 }
 
 #[cycle(modes)]
-#[tactic(auto, using(crate::proofs::Laws::mode_rules, crate::proofs::Arms::arm_rules))]
+#[tactic(auto, using(crate::proofs::Laws::mode_rules, crate::proofs::Arms::turn_rules))]
 fn arm(rtl: &Rtl, machine: &Machine, scope: &Scope, want: Option<Mode>) -> Verdict
     requires op { (out-Rtl rtl.now).op ≡ Op.Arm }
     ensures { result ≡ mode_in machine.now rtl.now (locals_of scope.now) want }
@@ -678,7 +679,7 @@ fn arm(rtl: &Rtl, machine: &Machine, scope: &Scope, want: Option<Mode>) -> Verdi
 
 /// An arm's value at its turn. That of the arm that leads isn't judged again.
 #[cycle(modes)]
-#[tactic(auto, using(crate::proofs::Laws::mode_rules, crate::proofs::Arms::arm_rules))]
+#[tactic(auto, using(crate::proofs::Laws::mode_rules, crate::proofs::Arms::turn_rules))]
 fn arm_turn(
     arm: &Rtl,
     machine: &Machine,
@@ -707,7 +708,7 @@ fn arm_turn(
 
 /// The arms from a place on, of which the one at `first` leads.
 #[cycle(modes)]
-#[tactic(auto, using(crate::proofs::Laws::mode_rules, crate::proofs::Arms::arm_rules))]
+#[tactic(auto, using(crate::proofs::Laws::mode_rules, crate::proofs::Arms::choice_rules))]
 fn each_arm(
     items: &[Rtl],
     machine: &Machine,
@@ -733,7 +734,7 @@ fn each_arm(
 
 /// The mode that leads where none is written.
 #[cycle(modes)]
-#[tactic(auto, using(crate::proofs::Laws::mode_rules, crate::proofs::Arms::arm_rules))]
+#[tactic(auto, using(crate::proofs::Laws::mode_rules, crate::proofs::Arms::choice_rules))]
 fn led(
     items: &[Rtl],
     machine: &Machine,
@@ -744,7 +745,7 @@ fn led(
     first: usize,
 ) -> Verdict
     requires within { from ≤ length items.now }
-    requires first { first ≡ from + Arms.firm_place (drop from items.now) }
+    requires first { first ≡ from + firm_place (drop from items.now) }
     ensures { result ≡ Arms.led machine.now (locals_of scope.now) tested want (drop from items.now) }
 {
     if first < items.len() {
@@ -756,7 +757,7 @@ fn led(
 
 /// The mode that arms agree on of which one is taken.
 #[cycle(modes)]
-#[tactic(auto, using(crate::proofs::Laws::mode_rules, crate::proofs::Arms::arm_rules))]
+#[tactic(auto, using(crate::proofs::Laws::mode_rules, crate::proofs::Arms::choice_rules))]
 fn chosen(
     items: &[Rtl],
     machine: &Machine,

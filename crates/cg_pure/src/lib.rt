@@ -1,7 +1,6 @@
 //! What pure expressions give: the rules of fields and the assertions of instructions.
 #![tactic(auto)]
 
-mod eval;
 mod rules;
 
 pub use rules::{decoded, field_value, multi_value, pure_eval};

@@ -14,10 +14,10 @@ ghost use Rattle.cg_typed.specs.Seen.{all_had};
 ghost use Rattle.cg_pure.specs.Evaluable.{holds_field, holds_multi, all_held};
 ghost use Rattle.cg_pure.specs.Surroundings.{seen_value, seen_fields, seen_all, IsReadable};
 
-use crate::eval::eval;
 use cg_base::Mode;
 use cg_model::{Field, Machine, Multi, Rtl, extended, field_bits};
 use cg_typed::around::Around;
+use cg_valued::eval;
 
 /// The value of a pure expression, by what stands around it.
 #[tactic(auto, using(crate::proofs::ValueLaws::value_rules))]

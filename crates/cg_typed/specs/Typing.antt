@@ -49,6 +49,10 @@ any_typed m a r = paired (spec.judged_any [] (checked m r)) (any_gives (pure_mea
 unfoldable pub operand_typed : Machine → Around → Mode → Option Mode → Rtl → Answer
 operand_typed m a mode want r = paired (and_then (spec.operand [] mode want (checked m r)) (λ k. Ok mode)) (operand_gives (pure_meaning m a r) [] mode want)
 
+-- A value that has to agree with the mode that leads.
+abbrev pub agreed : Mode → Typed → Answer
+agreed mode t = moded (spec.valued t.mode) (λ k. moded (spec.agrees mode t.mode) (λ j. Ok (record { mode = mode; value = t.value })))
+
 -- The mode that leads among some operands.
 unfoldable pub lead_of : Machine → Option Mode → Option Mode → List Rtl → Verdict
 lead_of m written want xs = leading m [] written want (map (checked m) xs)

@@ -9,9 +9,9 @@ use crate::around::Around;
 use crate::typed::{Answer, Typed};
 use crate::words;
 use cg_base::Mode;
+use cg_leaf::verdict::{Verdict, fits};
 use cg_model::{Machine, Rtl};
 use cg_modes::mode_within;
-use cg_modes::verdict::{Verdict, fits};
 
 /// The mode of a number.
 #[tactic(auto, unfolding(crate::specs::Typing::number_verdict))]
@@ -19,7 +19,7 @@ fn number_mode(rtl: &Rtl, machine: &Machine, want: Option<Mode>) -> Verdict
     ensures mode { result ≡ number_verdict machine.now rtl.now want }
     ensures bits { HasMode result }
 {
-    cg_modes::leaf::number(machine, rtl.mode, want, rtl.number)
+    cg_leaf::leaf::number(machine, rtl.mode, want, rtl.number)
 }
 
 /// Whether a number stands in a mode.

@@ -1,5 +1,5 @@
 use cg_base::Mode;
-use cg_modes::ModeFault;
+use cg_model::ModeFault;
 
 /// A value below 2^bits of its mode, and the mode.
 #[derive(Clone, Copy)]

@@ -10,12 +10,13 @@ ghost use Rattle.cg_typed.specs.Carrying.{carried_mode};
 ghost use Rattle.cg_typed.specs.Carrying as specs;
 ghost use Rattle.cg_typed.specs.Joining as joining;
 ghost use Rattle.cg_typed.specs.Parting.{IsInside, part_at, part_verdict};
-ghost use Rattle.cg_typed.specs.Typing.{in_mode, unary_at, binary_at, ternary_at};
+ghost use Rattle.cg_typed.specs.Typed.{Fits, HasBits, IsIn};
+ghost use Rattle.cg_typed.specs.Typing.{agreed, in_mode, unary_at, binary_at, ternary_at};
 
-use crate::typed::Typed;
+use crate::typed::{Answer, Typed};
 use cg_base::{BinaryOp, Mode, TernaryOp, UnaryOp, bits, convert};
+use cg_leaf::verdict::{Verdict, agrees, valued};
 use cg_model::{Kind, Rtl};
-use cg_modes::verdict::Verdict;
 
 /// The number that an expression has, modulo 2^bits of a mode.
 #[tactic(auto, unfolding(crate::specs::Typing::in_mode), using(crate::proofs::Bounds::word_rules))]
@@ -30,6 +31,24 @@ pub fn number(mode: Mode, rtl: &Rtl) -> Typed
         few => rtl.number.cast_unsigned() % (1 << few),
     };
     Typed { mode, value }
+}
+
+/// An operand's value where a mode leads with which it has to agree (docs/LANGUAGE.md, "Modes of
+/// expressions"): E404 where it has no bits, and E401 with both modes where it has more or fewer.
+#[tactic(auto, using(crate::proofs::Laws::pure_rules))]
+pub fn agreed(mode: Mode, a: Typed) -> Answer
+    requires fits { a.value < 2 ^ bits_of a.mode }
+    ensures value { result ≡ agreed mode a }
+    ensures mode { IsIn result mode }
+    ensures fits { Fits result }
+    ensures bits { HasBits result }
+{
+    valued(a.mode)?;
+    agrees(mode, a.mode)?;
+    Ok(Typed {
+        mode,
+        value: a.value,
+    })
 }
 
 /// Whether a value is 0.
@@ -233,7 +252,7 @@ pub fn inside(rtl: &Rtl, to: Mode, from: Mode) -> Verdict
     ensures mode { result ≡ part_verdict rtl.now to from }
     ensures inside { IsInside result rtl.now to from }
 {
-    cg_modes::verdict::part(rtl, to, from)
+    cg_leaf::verdict::part(rtl, to, from)
 }
 
 /// The part of a value of the number that an expression has, the most significant one being 0.

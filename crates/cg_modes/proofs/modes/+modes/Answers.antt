@@ -2,9 +2,9 @@ use Rattle.std.proofs.Common.{◌≡◌, ap, Ok, ◌∙◌, sym, subst, ◌<◌,
 use Rattle.std.proofs.lemmas.Grind.{common_steps}
 use Rattle.cg_model.specs.Checked.{Verdict, and_then, is_place}
 use Rattle.cg_model.specs.declared.rtl.Rtl.{Rtl, out-Rtl}
-use Rattle.cg_modes.specs.Scope.{locals_of}
+use Rattle.cg_leaf.specs.Scope.{locals_of}
 use Rattle.cg_modes.specs.Arms.{before}
-use Rattle.cg_modes.proofs.Laws.{dropped_more, either_first, either_second, set_law, sequence_law, mode_rules}
+use Rattle.cg_modes.proofs.Laws.{dropped_more, either_first, either_second, set_law, sequence_law, around_rules}
 use Rattle.cg_modes.proofs.Arms.{test_more, before_tested, case_law, walked_more, valueless_more}
 use Rattle.cg_modes.proofs.modes.+modes.Goals as goal
 
@@ -20,7 +20,7 @@ set-returns-then-is_place t c =
 pub sequence-returns : goal.sequence-returns
 sequence-returns t c =
     let h = sequence_law c.args.machine.now c.args.rtl.now (locals_of c.args.scope.now) c.args.want c.min-count.result c.requires.op (grind (arith, common_steps)) in
-    grind (arith, mode_rules, h)
+    grind (arith, around_rules, h)
 
 pub sequence-returns-in_err-first_dropped : goal.sequence-returns-in_err-first_dropped
 sequence-returns-in_err-first_dropped t c =

@@ -1,0 +1,4 @@
+pub mod Counting
+pub mod Reaching
+pub mod Sizes
+pub mod Tables
