@@ -11,6 +11,7 @@ use crate::expressions::{
     Found, cells, cells_of_all, cells_where, names, names_where, numbers_of_all, numbers_where,
     purity, purity_of_all, purity_where,
 };
+use crate::texts::{first_long_literal, first_long_of_all, first_long_text, first_long_word};
 use cg_base::NoMemory;
 use cg_circular::first_circular;
 use cg_model::{
@@ -25,12 +26,15 @@ use cg_rules::{
 };
 use std::alloc::Global;
 
-/// The first fault of the machine's own bundle field.
+/// The first fault of the machine's own name and bundle field.
 #[tactic(auto, using(crate::proofs::Firsts::first_rules))]
 pub fn first_of_bundle(machine: &Machine) -> Option<MachineFault>
     ensures { result ≡ first (spec.of_bundle machine.now) }
 {
     if let Some(fault) = first_no_bundle(machine) {
+        return Some(fault);
+    }
+    if let Some(fault) = first_long_text(&machine.name) {
         return Some(fault);
     }
     first_no_bundle_bit(machine)
@@ -45,7 +49,10 @@ fn field_counts(before: u64, spent: u64, field: &Field) -> Found
         return Ok(Some(fault));
     }
     let now = add(spent, field_nodes(field)?)?;
-    Ok(first_passing(1_000_000, spent, now))
+    if let Some(fault) = first_passing(1_000_000, spent, now) {
+        return Ok(Some(fault));
+    }
+    Ok(first_long_text(&field.name))
 }
 
 /// The first fault of a field that so many stand before, with so many nodes of expressions.
@@ -86,7 +93,10 @@ fn multi_counts(before: u64, spent: u64, multi: &Multi) -> Found
         return Ok(Some(fault));
     }
     let now = add(spent, multi_nodes(multi)?)?;
-    Ok(first_passing(1_000_000, spent, now))
+    if let Some(fault) = first_passing(1_000_000, spent, now) {
+        return Ok(Some(fault));
+    }
+    Ok(first_long_text(&multi.name))
 }
 
 /// The first fault of a multi field that so many stand before, with so many nodes of expressions.
@@ -145,7 +155,13 @@ fn hardware_counts(before: usize, cells: u64, spent: u64, hardware: &Hardware) -
         return Ok(Some(fault));
     }
     let now = add(spent, hardware_nodes(hardware)?)?;
-    Ok(first_passing(1_000_000, spent, now))
+    if let Some(fault) = first_passing(1_000_000, spent, now) {
+        return Ok(Some(fault));
+    }
+    if let Some(fault) = first_long_text(&hardware.name) {
+        return Ok(Some(fault));
+    }
+    Ok(first_long_word(&hardware.keyword))
 }
 
 /// E306 of a get or set rule that may be absent.
@@ -211,7 +227,10 @@ pub fn first_of_operand(machine: &Machine, before: u64, operand: &Operand) -> Fo
     if let Some(fault) = first_unsourced(machine, operand) {
         return Ok(Some(fault));
     }
-    Ok(first_passing(1024, before, add(before, 1)?))
+    if let Some(fault) = first_passing(1024, before, add(before, 1)?) {
+        return Ok(Some(fault));
+    }
+    Ok(first_long_text(&operand.name))
 }
 
 /// The operands of a format's slots, in order.
@@ -283,6 +302,21 @@ fn insn_format(alloc: Global, machine: &Machine, insn: &Insn) -> Found
     Ok(first_bundled(machine, parts))
 }
 
+/// The counts of an instruction over the machine, and its texts.
+#[tactic(auto, using(crate::proofs::Firsts::first_rules))]
+fn insn_counts(spent: u64, insn: &Insn) -> Found
+    ensures { IfOk result (λ found. found ≡ first (e308.of_insn spent insn.now)) }
+{
+    let now = add(spent, insn_nodes(insn)?)?;
+    if let Some(fault) = first_passing(1_000_000, spent, now) {
+        return Ok(Some(fault));
+    }
+    if let Some(fault) = first_long_text(&insn.name) {
+        return Ok(Some(fault));
+    }
+    Ok(first_long_literal(insn.pieces.as_slice()))
+}
+
 /// The first fault of an instruction that so many stand before, with so many nodes of expressions.
 #[tactic(auto, using(crate::proofs::Firsts::first_rules))]
 pub fn first_of_insn(
@@ -304,8 +338,7 @@ pub fn first_of_insn(
     if let Some(fault) = insn_names(machine, insn)? {
         return Ok(Some(fault));
     }
-    let now = add(spent, insn_nodes(insn)?)?;
-    if let Some(fault) = first_passing(1_000_000, spent, now) {
+    if let Some(fault) = insn_counts(spent, insn)? {
         return Ok(Some(fault));
     }
     if let Some(fault) = insn_format(alloc, machine, insn)? {
@@ -351,6 +384,20 @@ fn macro_syntax(alloc: Global, machine: &Machine, insn: &MacroInsn) -> Found
     Ok(first_unused(given, operands))
 }
 
+/// The counts of a macro instruction over the machine, and its texts.
+#[tactic(auto, using(crate::proofs::Firsts::first_rules))]
+fn macro_counts(before: u64, insn: &MacroInsn) -> Found
+    ensures { IfOk result (λ found. found ≡ first (e308.of_macro before insn.now)) }
+{
+    if let Some(fault) = first_passing(1024, before, add(before, 1)?) {
+        return Ok(Some(fault));
+    }
+    if let Some(fault) = first_long_text(&insn.name) {
+        return Ok(Some(fault));
+    }
+    Ok(first_long_literal(insn.pieces.as_slice()))
+}
+
 /// The first fault of a macro instruction that so many stand before.
 #[tactic(auto, using(crate::proofs::Firsts::first_rules))]
 pub fn first_of_macro(alloc: Global, machine: &Machine, before: u64, insn: &MacroInsn) -> Found
@@ -359,15 +406,19 @@ pub fn first_of_macro(alloc: Global, machine: &Machine, before: u64, insn: &Macr
     if let Some(fault) = first_no_emitted(machine, insn) {
         return Ok(Some(fault));
     }
-    if let Some(fault) = first_passing(1024, before, add(before, 1)?) {
+    if let Some(fault) = macro_counts(before, insn)? {
         return Ok(Some(fault));
     }
     Ok(macro_syntax(alloc, machine, insn)?)
 }
 
-/// The fault of too many error texts.
+/// The fault of too many error texts, or of one that is too long.
+#[tactic(auto, using(crate::proofs::Firsts::first_rules))]
 pub fn first_of_texts(machine: &Machine) -> Option<MachineFault>
     ensures { result ≡ first (spec.of_texts machine.now) }
 {
-    first_passing(1_000_000, 0, machine.texts.len() as u64)
+    if let Some(fault) = first_passing(1_000_000, 0, machine.texts.len() as u64) {
+        return Some(fault);
+    }
+    first_long_of_all(machine.texts.as_slice())
 }

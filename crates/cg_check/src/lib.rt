@@ -6,6 +6,7 @@ mod counting;
 mod elements;
 mod expressions;
 mod moded;
+mod texts;
 
 pub use counting::{add, field_nodes, hardware_nodes, insn_nodes, multi_nodes, nodes};
 pub use elements::{

@@ -3,10 +3,10 @@ use Rattle.std.proofs.Common.{if◌then◌else◌, ◌⊎◌, length-append, inl
 use Rattle.std.proofs.lemmas.Bool.{cases_lt, false≢true}
 use Rattle.std.proofs.lemmas.Option.{slice_get_past}
 use Rattle.std.proofs.lemmas.Grind.{common_steps}
-use Rattle.cg_model.specs.Placed.{is_set}
+use Rattle.cg_model.specs.Placed.{is_set, RuleName, AsPlace, needed_at, each_needed, needed_step, needed_by, rule_named, needed_where, needed}
 use Rattle.cg_model.specs.declared.machine.Machine.{Machine}
 use Rattle.cg_model.specs.declared.rtl.Rtl.{Rtl, out-Rtl, fold_out-Rtl}
-use Rattle.cg_model.specs.faults.E314.{RuleName, AsPlace, is_same, one_leads, needed_at, each_needed, needed_step, needed_by, rule_named, needed_where, needed, leads_in, needs}
+use Rattle.cg_model.specs.faults.E314.{is_same, one_leads, leads_in, needs}
 use Rattle.cg_circular.specs.Tables.{in_row, in_table, leads_by, IsRow, IsNext, Knows}
 use Rattle.cg_circular.specs.declared.rule.Table.{Table}
 
@@ -103,7 +103,7 @@ knows_round m k s t u v known first second =
     let two : suc (suc (2 * k)) ≡ 2 * (k + 1) = omega arith in
     subst (λ n. Knows m n s v) two (knows_next m (suc (2 * k)) s u v (knows_next m (2 * k) s t u known first) second)
 
-unled : (m : Machine) (n : ℕ) (s r : RuleName) → rule_named m r ≡ None → leads_in m n s r ≡ false
+pub unled : (m : Machine) (n : ℕ) (s r : RuleName) → rule_named m r ≡ None → leads_in m n s r ≡ false
 unled m zero s r none = refl
 unled m (suc n) s r none = ap (λ x. one_leads (leads_in m n s) s (needed_where m x)) none
 

@@ -1,9 +1,10 @@
 -- Tables of which rules lead to one rule.
-use Rattle.std.specs.Prelude.{◌≡◌, ℕ, Bool, false, if◌then◌else◌, List, Some, None, slice_get}
+use Rattle.std.specs.Prelude.{◌≡◌, ◌<◌, ℕ, Bool, true, false, if◌then◌else◌, List, Some, None, slice_get}
 use Rattle.cg_circular.specs.declared.rule.RuleName as declared
 use Rattle.cg_circular.specs.declared.rule.Table.{Table}
 use Rattle.cg_model.specs.declared.machine.Machine.{Machine}
-use Rattle.cg_model.specs.faults.E314.{RuleName, one_leads, needed, leads_in}
+use Rattle.cg_model.specs.Placed.{RuleName, needed}
+use Rattle.cg_model.specs.faults.E314.{one_leads, leads_in}
 
 abbrev pub seen_rule : declared.RuleName → RuleName
 seen_rule r = record { hardware = r.hardware; sets = r.sets }
@@ -30,3 +31,11 @@ pub record IsNext (m : Machine) (t : Table) (s : RuleName) (next : Table) : Type
 -- The table has the rules that lead to this one in at most so many steps.
 pub record Knows (m : Machine) (steps : ℕ) (s : RuleName) (t : Table) : Type 0 where
   pub at : (r : RuleName) → in_table t r ≡ leads_in m steps s r
+
+-- Two tables have the same rules of the hardware of a number, and of all hardware below a number.
+pub record IsAlike (t u : Table) (k : ℕ) : Type 0 where
+  pub gets : in_table t (record { hardware = k; sets = false }) ≡ in_table u (record { hardware = k; sets = false })
+  pub sets : in_table t (record { hardware = k; sets = true }) ≡ in_table u (record { hardware = k; sets = true })
+
+pub record AreAlike (count : ℕ) (t u : Table) : Type 0 where
+  pub at : (k : ℕ) → k < count → IsAlike t u k

@@ -1,7 +1,7 @@
-ghost use Rattle.std.specs.Prelude.{◌≡◌, ◌*◌, ◌+◌, IfOk};
+ghost use Rattle.std.specs.Prelude.{◌≡◌, ◌*◌, ◌+◌, true, length, IfOk};
 ghost use Rattle.cg_base.specs.Refusing.{first};
 ghost use Rattle.cg_model.specs.faults.E314 as spec;
-ghost use Rattle.cg_circular.specs.Tables.{seen_rule, IsRow, IsNext};
+ghost use Rattle.cg_circular.specs.Tables.{seen_rule, IsRow, IsNext, IsAlike, AreAlike};
 
 use crate::rule::{RuleName, Table, in_table, is_ruled, rule_leads};
 use cg_base::NoMemory;
@@ -41,8 +41,36 @@ fn next(
     Ok(Table { gets, sets })
 }
 
-/// Whether a rule needs itself.
-#[tactic(auto, using(crate::proofs::Leading::needing_rules))]
+/// Whether two tables have the same rules of the hardware of a number.
+fn is_settled_at(table: &Table, next: &Table, hardware: usize) -> bool
+    ensures { result ≡ true → IsAlike table.now next.now hardware }
+{
+    let get = RuleName {
+        hardware,
+        sets: false,
+    };
+    let set = RuleName {
+        hardware,
+        sets: true,
+    };
+    in_table(table, get) == in_table(next, get) && in_table(table, set) == in_table(next, set)
+}
+
+/// Whether a table has no rules of the hardware of a machine that another hasn't, and lacks none.
+#[tactic(auto, using(crate::proofs::Settling::alike_rules))]
+fn is_settled(machine: &Machine, table: &Table, next: &Table) -> bool
+    ensures { result ≡ true → AreAlike (length machine.now.hardware) table.now next.now }
+{
+    for hardware in 0..machine.hardware.len() {
+        if !is_settled_at(table, next, hardware) {
+            return false;
+        }
+    }
+    true
+}
+
+/// Whether a rule needs itself. Where a table doesn't grow in a step, it has all rules that lead to this one.
+#[tactic(auto, using(crate::proofs::Settling::settling_rules))]
 fn needs_itself(alloc: Global, machine: &Machine, rule: RuleName) -> Result<bool, NoMemory>
     ensures { IfOk result (λ needs. needs ≡ spec.needs machine.now (seen_rule rule) (seen_rule rule)) }
 {
@@ -55,6 +83,9 @@ fn needs_itself(alloc: Global, machine: &Machine, rule: RuleName) -> Result<bool
     };
     for _round in 0..machine.hardware.len() {
         let once = next(alloc, machine, &table, rule)?;
+        if is_settled(machine, &table, &once) {
+            return Ok(in_table(&table, rule));
+        }
         table = next(alloc, machine, &once, rule)?;
     }
     Ok(in_table(&table, rule))

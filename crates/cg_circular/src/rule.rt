@@ -1,6 +1,6 @@
 ghost use Rattle.std.specs.Prelude.{◌≡◌, slice_get, is_some};
 ghost use Rattle.std.specs.Option.{option_copied};
-ghost use Rattle.cg_model.specs.Placed.{is_set};
+ghost use Rattle.cg_model.specs.Placed as placed;
 ghost use Rattle.cg_model.specs.Operators.{at_number};
 ghost use Rattle.cg_model.specs.declared.rtl.Rtl.{out-Rtl};
 ghost use Rattle.cg_model.specs.faults.E314 as spec;
@@ -58,7 +58,7 @@ pub(crate) fn in_table(table: &Table, rule: RuleName) -> bool
 
 /// Whether the rule of a register leads to another, by itself or by a table.
 fn register_leads(machine: &Machine, table: &Table, target: RuleName, sets: bool, k: usize) -> bool
-    ensures { result ≡ spec.one_leads (in_table table.now) (seen_rule target) (spec.of_register sets k (slice_get machine.now.hardware k)) }
+    ensures { result ≡ spec.one_leads (in_table table.now) (seen_rule target) (placed.of_register sets k (slice_get machine.now.hardware k)) }
 {
     match machine.hardware.get(k) {
         Some(hardware) => {
@@ -74,7 +74,7 @@ fn register_leads(machine: &Machine, table: &Table, target: RuleName, sets: bool
 
 /// The same of the register that a number names.
 fn number_leads(machine: &Machine, table: &Table, target: RuleName, sets: bool, rtl: &Rtl) -> bool
-    ensures { result ≡ spec.one_leads (in_table table.now) (seen_rule target) (spec.of_number machine.now sets (out-Rtl rtl.now).number) }
+    ensures { result ≡ spec.one_leads (in_table table.now) (seen_rule target) (placed.of_number machine.now sets (out-Rtl rtl.now).number) }
 {
     if rtl.number < 0 {
         return false;
@@ -84,7 +84,7 @@ fn number_leads(machine: &Machine, table: &Table, target: RuleName, sets: bool, 
 
 /// The same of the register of the operand that a number names.
 fn operand_leads(machine: &Machine, table: &Table, target: RuleName, sets: bool, rtl: &Rtl) -> bool
-    ensures { result ≡ spec.one_leads (in_table table.now) (seen_rule target) (spec.of_operand machine.now sets (at_number machine.now.operands (out-Rtl rtl.now).number)) }
+    ensures { result ≡ spec.one_leads (in_table table.now) (seen_rule target) (placed.of_operand machine.now sets (at_number machine.now.operands (out-Rtl rtl.now).number)) }
 {
     if rtl.number < 0 {
         return false;
@@ -96,9 +96,9 @@ fn operand_leads(machine: &Machine, table: &Table, target: RuleName, sets: bool,
 }
 
 /// The same of the outermost node of an expression, which may be a place that is set.
-#[tactic(auto, unfolding(cg_model::specs::faults::E314::needed_at))]
+#[tactic(auto, unfolding(cg_model::specs::Placed::needed_at))]
 fn node_leads(machine: &Machine, table: &Table, target: RuleName, is_place: bool, rtl: &Rtl) -> bool
-    ensures { result ≡ spec.one_leads (in_table table.now) (seen_rule target) (spec.needed_at machine.now is_place (out-Rtl rtl.now).op (out-Rtl rtl.now).number) }
+    ensures { result ≡ spec.one_leads (in_table table.now) (seen_rule target) (placed.needed_at machine.now is_place (out-Rtl rtl.now).op (out-Rtl rtl.now).number) }
 {
     match rtl.op {
         Op::Reg => number_leads(machine, table, target, is_place, rtl),
@@ -109,7 +109,7 @@ fn node_leads(machine: &Machine, table: &Table, target: RuleName, is_place: bool
 
 /// Whether an operation sets its first item.
 fn is_set(op: Op) -> bool
-    ensures { result ≡ is_set op }
+    ensures { result ≡ placed.is_set op }
 {
     match op {
         Op::Set => true,
@@ -126,7 +126,7 @@ fn expression_leads(
     is_place: bool,
     rtl: &Rtl,
 ) -> bool
-    ensures { result ≡ spec.one_leads (in_table table.now) (seen_rule target) (spec.needed_by machine.now rtl.now is_place) }
+    ensures { result ≡ spec.one_leads (in_table table.now) (seen_rule target) (placed.needed_by machine.now rtl.now is_place) }
 {
     if node_leads(machine, table, target, is_place, rtl) {
         return true;
@@ -143,7 +143,7 @@ fn expression_leads(
 
 /// The expression of a rule.
 fn rule_named(machine: &Machine, rule: RuleName) -> Option<&Rtl>
-    ensures { option_copied result ≡ spec.rule_named machine.now (seen_rule rule) }
+    ensures { option_copied result ≡ placed.rule_named machine.now (seen_rule rule) }
 {
     let hardware = machine.hardware.get(rule.hardware)?;
     if rule.sets {
@@ -154,7 +154,7 @@ fn rule_named(machine: &Machine, rule: RuleName) -> Option<&Rtl>
 
 /// Whether a rule is there at all.
 pub(crate) fn is_ruled(machine: &Machine, rule: RuleName) -> bool
-    ensures { result ≡ is_some (spec.rule_named machine.now (seen_rule rule)) }
+    ensures { result ≡ is_some (placed.rule_named machine.now (seen_rule rule)) }
 {
     rule_named(machine, rule).is_some()
 }
