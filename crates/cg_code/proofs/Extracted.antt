@@ -15,7 +15,8 @@ use Rattle.cg_model.specs.declared.rtl.Rtl.{Rtl}
 use Rattle.cg_model.specs.Checked.{mode_of}
 use Rattle.cg_model.specs.Pure.{pure_value}
 use Rattle.cg_model.specs.Fields.{extended, decoded, around, around_value, around_fields}
-use Rattle.cg_model.specs.Slots.{slot_mode, is_register}
+use Rattle.cg_model.specs.Placed.{is_register}
+use Rattle.cg_model.specs.Slots.{slot_mode}
 use Rattle.cg_model.specs.Sound.{IsSound, SoundField, SoundMulti, SoundOperand, SoundHardware, IsRule, Allowed, is_word, is_there}
 use Rattle.cg_code.proofs.Around.{rule_of_value, rule_of_fields}
 use Rattle.cg_code.proofs.Held.{held_to_extract}

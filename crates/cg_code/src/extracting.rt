@@ -3,6 +3,7 @@ ghost use Rattle.cg_base.specs.declared.Mode.{Mode};
 ghost use Rattle.cg_base.specs.declared.Mode.TheVariants.{Void, Usi};
 ghost use Rattle.cg_base.specs.Modes.{bits_of};
 ghost use Rattle.cg_code.specs.Coded.{Holds, values_at, matches_at};
+ghost use Rattle.cg_model.specs.Placed.{is_register};
 ghost use Rattle.cg_model.specs.Encoding.{own_pc};
 ghost use Rattle.cg_model.specs.Fields.{field_value, multi_value, around_fields};
 ghost use Rattle.cg_model.specs.Pure.{pure_value};
@@ -17,7 +18,7 @@ use cg_pure::{decoded, pure_eval};
 
 /// A pc modulo 2^bits of the cpu's word.
 #[tactic(auto, using(crate::proofs::Extracted::word))]
-pub(crate) fn word_pc(machine: &Machine, pc: u64) -> u64
+pub fn word_pc(machine: &Machine, pc: u64) -> u64
     requires { IsSound machine.now }
     ensures value { result ≡ own_pc machine.now pc }
     ensures fits { result < 2 ^ machine.now.word_bits }
@@ -27,7 +28,7 @@ pub(crate) fn word_pc(machine: &Machine, pc: u64) -> u64
 
 /// The mode of a value for hardware: on a register it is an index.
 fn value_mode(hardware: &Hardware) -> Mode
-    ensures { result ≡ (if spec.is_register hardware.now.kind then Usi else hardware.now.mode) }
+    ensures { result ≡ (if is_register hardware.now.kind then Usi else hardware.now.mode) }
 {
     if hardware.kind == HwKind::Register {
         Mode::Usi
@@ -38,7 +39,7 @@ fn value_mode(hardware: &Hardware) -> Mode
 
 /// The mode of an operand's value.
 #[tactic(auto, using(crate::proofs::Extracted::slot))]
-pub(crate) fn slot_mode(machine: &Machine, operand: &Operand) -> Mode
+pub fn slot_mode(machine: &Machine, operand: &Operand) -> Mode
     requires sound { IsSound machine.now }
     requires operand { SoundOperand machine.now operand.now }
     ensures value { result ≡ spec.slot_mode machine.now operand.now }
@@ -154,9 +155,9 @@ fn with_part(machine: &Machine, part: Part, bytes: &[u8], pc: u64, all: Values) 
     all
 }
 
-/// The values of an instruction's slots.
+/// The values of an instruction's slots in bytes that are at least as long as it. It takes no memory.
 #[tactic(auto, using(crate::proofs::Holding::filling))]
-pub(crate) fn values_of(machine: &Machine, insn: &Insn, bytes: &[u8], pc: u64) -> Values
+pub fn values_of(machine: &Machine, insn: &Insn, bytes: &[u8], pc: u64) -> Values
     requires sound { IsSound machine.now }
     requires insn { SoundInsn machine.now insn.now }
     requires long { length_of machine.now insn.now ≤ length bytes.now }

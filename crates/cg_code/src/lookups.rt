@@ -26,7 +26,7 @@ pub(crate) fn multi_at(machine: &Machine, k: u16) -> Option<&Multi>
 
 /// The operand of a number.
 #[tactic(auto, using(crate::proofs::Soundness::found))]
-pub(crate) fn operand_at(machine: &Machine, k: u16) -> Option<&Operand>
+pub fn operand_at(machine: &Machine, k: u16) -> Option<&Operand>
     requires { IsSound machine.now }
     ensures value { option_copied result ≡ slice_get machine.now.operands k }
     ensures sound { MatchOption result ⊤ (λ o. SoundOperand machine.now o.now) }
@@ -36,7 +36,7 @@ pub(crate) fn operand_at(machine: &Machine, k: u16) -> Option<&Operand>
 
 /// The instruction of a number.
 #[tactic(auto, using(crate::proofs::Matched::instructions))]
-pub(crate) fn insn_at(machine: &Machine, i: u16) -> &Insn
+pub fn insn_at(machine: &Machine, i: u16) -> &Insn
     requires sound { IsSound machine.now }
     requires within { i < length machine.now.insns }
     ensures at { slice_get machine.now.insns i ≡ Some result.now }

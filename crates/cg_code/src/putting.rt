@@ -220,7 +220,7 @@ fn put_part(
 
 /// The constants and the slots' fields in place, and 0 in all other bits.
 #[tactic(auto, using(crate::proofs::Filled::parts))]
-pub(crate) fn in_place(machine: &Machine, insn: &Insn, numbers: &[u64], pc: u64) -> [u8; 16]
+pub fn in_place(machine: &Machine, insn: &Insn, numbers: &[u64], pc: u64) -> [u8; 16]
     requires sound { IsSound machine.now }
     requires insn { SoundInsn machine.now insn.now }
     requires values { spec.AreFor machine.now (slots.slots_of machine.now insn.now.parts) numbers.now }
