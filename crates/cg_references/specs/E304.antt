@@ -5,7 +5,7 @@ use Rattle.cg_element.specs.declared.kind.Kind.{Kind}
 use Rattle.cg_references.specs.declared.finding.Finding.{Finding}
 use Rattle.cg_references.specs.declared.finding.Finding.TheVariants.{OfAnotherKind}
 use Rattle.cg_references.specs.declared.reference.Reference.{Reference}
-use Rattle.cg_references.specs.Table.{Table}
+use Rattle.cg_known.specs.Table.{Table}
 use Rattle.cg_references.specs.References.{references}
 use Rattle.cg_references.specs.Finding.{found}
 
@@ -24,5 +24,5 @@ abbrev pub of_another_kind : Table → List Reference → List (List ℕ)
 of_another_kind at rs = map referred (filter (is_of_another_kind at) rs)
 
 -- The names in the form that an element of this kind gives, in the order of their places.
-abbrev pub e304 : Table → Kind → Form → List (List ℕ)
-e304 at k f = of_another_kind at (references k f)
+abbrev pub e304 : Table → Bool → Kind → Form → List (List ℕ)
+e304 at selected k f = of_another_kind at (references selected k f)

@@ -4,23 +4,33 @@ use Rattle.cg_base.specs.declared.form.Form.{Form}
 use Rattle.cg_element.specs.declared.kind.Kind.{Kind}
 use Rattle.cg_references.specs.declared.finding.Finding.{Finding}
 use Rattle.cg_references.specs.declared.finding.Finding.TheVariants.{Undefined}
+use Rattle.cg_element.specs.declared.element.Element.{Element}
+use Rattle.cg_element.specs.declared.kind.Namespace.TheVariants.{Models}
 use Rattle.cg_references.specs.declared.reference.Reference.{Reference}
-use Rattle.cg_references.specs.Table.{Table}
+use Rattle.cg_references.specs.declared.reference.Place.{Place}
+use Rattle.cg_references.specs.declared.reference.Place.TheVariants as place
+use Rattle.cg_known.specs.Table.{Table}
 use Rattle.cg_references.specs.References.{references}
 use Rattle.cg_references.specs.Finding.{found}
+use Rattle.cg_references.specs.Units.{lacks_unit}
 use Rattle.cg_references.specs.E304.{referred}
 
 abbrev pub is_nothing : Finding → Bool
 is_nothing Undefined = true
 is_nothing _ = false
 
-abbrev pub is_undefined : Table → Reference → Bool
-is_undefined at r = is_nothing (found at r.place r.name)
+-- A unit is one of its model's.
+abbrev pub is_undefined_at : Table → List Element → Reference → Place → Bool
+is_undefined_at at es r place.Unit = lacks_unit es r.name (at Models r.model)
+is_undefined_at at es r p = is_nothing (found at p r.name)
+
+abbrev pub is_undefined : Table → List Element → Reference → Bool
+is_undefined at es r = is_undefined_at at es r r.place
 
 -- the names in this list of references
-abbrev pub undefined : Table → List Reference → List (List ℕ)
-undefined at rs = map referred (filter (is_undefined at) rs)
+abbrev pub undefined : Table → List Element → List Reference → List (List ℕ)
+undefined at es rs = map referred (filter (is_undefined at es) rs)
 
 -- The names in the form that an element of this kind gives, in the order of their places.
-abbrev pub e306 : Table → Kind → Form → List (List ℕ)
-e306 at k f = undefined at (references k f)
+abbrev pub e306 : Table → List Element → Bool → Kind → Form → List (List ℕ)
+e306 at es selected k f = undefined at es (references selected k f)

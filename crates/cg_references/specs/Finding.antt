@@ -5,12 +5,12 @@ use Rattle.cg_attrs.specs.Attrs.{is_bitset, is_known_flag}
 use Rattle.cg_element.specs.declared.kind.Kind.{Kind}
 use Rattle.cg_element.specs.declared.kind.Kind.TheVariants as kind
 use Rattle.cg_element.specs.declared.kind.Namespace.TheVariants.{Isas, Cpus, Machs, Models, Attrs, Enums, Keywords, Fields, Hardwares, Operands, Insns, Macros, Constants}
-use Rattle.cg_references.specs.declared.names.Standing.{Standing}
+use Rattle.cg_known.specs.declared.names.Standing.{Standing}
 use Rattle.cg_references.specs.declared.reference.Place.{Place}
 use Rattle.cg_references.specs.declared.reference.Place.TheVariants as place
 use Rattle.cg_references.specs.declared.finding.Finding.{Finding}
 use Rattle.cg_references.specs.declared.finding.Finding.TheVariants.{Fitting, OfAnotherKind, Undefined}
-use Rattle.cg_references.specs.Table.{Table}
+use Rattle.cg_known.specs.Table.{Table}
 
 -- Where a name stands, if it does, it is of such a kind.
 abbrev pub stands_as : (Kind → Bool) → Option Standing → Bool
@@ -47,12 +47,13 @@ abbrev pub is_part : (Kind → Bool) → Option Standing → Option Standing →
 is_part takes (Some operand) constant field = takes operand.kind
 is_part takes None constant field = stands_as is_field_constant constant || is_some field
 
--- The place takes what has this name.
+-- The place takes what has this name. A unit is one of its model's (Units).
 abbrev pub fits : Table → Place → List ℕ → Bool
 fits at place.Mach name = is_some (at Machs name)
 fits at place.Isa name = is_some (at Isas name)
 fits at place.Cpu name = is_some (at Cpus name)
 fits at place.Model name = is_some (at Models name)
+fits at place.Unit name = true
 fits at place.Attribute name = is_known_attribute name (at Attrs name)
 fits at place.Keyword name = is_some (at Keywords name)
 fits at place.Hardware name = is_some (at Hardwares name)

@@ -21,7 +21,7 @@ use Rattle.cg_references.specs.declared.reference.Reference.{Reference}
 use Rattle.cg_references.specs.Clauses.{clauses_of}
 
 abbrev pub reference : Place → List ℕ → Reference
-reference at name = record { place = at; name = name }
+reference at name = record { place = at; name = name; model = [] }
 
 -- each symbol among the forms
 abbrev pub symbols : Place → List Form → List Reference
@@ -88,10 +88,27 @@ parts_in (Some x) = x.1
 abbrev pub parts : Place → List Form → List Reference
 parts at fs = flat_map (part at) (parts_in (option_or (headed_in fs) (listed fs)))
 
--- `timing` names models.
+-- `timing` names models, and behind each `(unit name ..)` units of it.
+abbrev pub unit_reference : List ℕ → List ℕ → Reference
+unit_reference model name = record { place = place.Unit; name = name; model = model }
+
+abbrev pub unit_first : List ℕ → List Form → List Reference
+unit_first model [] = []
+unit_first model (f ∷ fs) = map (unit_reference model) (filter_map symbol_of (f ∷ []))
+
+abbrev pub unit_in : List ℕ → Option Headed → List Reference
+unit_in model None = []
+unit_in model (Some x) = unit_first model x.1
+
+abbrev pub unit : List ℕ → Form → List Reference
+unit model f = unit_in model (headed f)
+
+abbrev pub units : List ℕ → List Form → List Reference
+units model fs = flat_map (unit model) fs
+
 abbrev pub model_in : Option Headed → List Reference
 model_in None = []
-model_in (Some x) = reference place.Model x.0 ∷ []
+model_in (Some x) = reference place.Model x.0 ∷ units x.0 x.1
 
 abbrev pub model : Form → List Reference
 model f = model_in (headed f)
@@ -144,22 +161,27 @@ names_of_insn c =
 abbrev pub names_under : List ℕ → Place → Clause → List Reference
 names_under name at c = if same_text name c.name then symbols at c.content else []
 
-abbrev pub names_by_kind : Kind → Clause → List Reference
-names_by_kind kind.Arch c = names_of_arch c
-names_by_kind kind.Mach c = names_of_mach c
-names_by_kind kind.Model c = names_under (codes "mach") place.Mach c
-names_by_kind kind.InsnEnum c = names_under (codes "field") place.Field c
-names_by_kind kind.Multi c = names_under (codes "subfields") place.Field c
-names_by_kind kind.Hardware c = names_of_hardware c
-names_by_kind kind.Operand c = names_of_operand c
-names_by_kind kind.Derived c = names_of_derived c
-names_by_kind kind.Anyof c = names_under (codes "choices") place.Choice c
-names_by_kind kind.Insn c = names_of_insn c
-names_by_kind _ c = []
+-- `bundle-field` is asked of the selected instruction set alone.
+abbrev pub names_of_isa : Bool → Clause → List Reference
+names_of_isa selected c = if selected then names_under (codes "bundle-field") place.Field c else []
 
-abbrev pub names_in : Kind → Clause → List Reference
-names_in k c = if same_text (codes "attrs") c.name then attributes c.content else names_by_kind k c
+abbrev pub names_by_kind : Bool → Kind → Clause → List Reference
+names_by_kind selected kind.Isa c = names_of_isa selected c
+names_by_kind selected kind.Arch c = names_of_arch c
+names_by_kind selected kind.Mach c = names_of_mach c
+names_by_kind selected kind.Model c = names_under (codes "mach") place.Mach c
+names_by_kind selected kind.InsnEnum c = names_under (codes "field") place.Field c
+names_by_kind selected kind.Multi c = names_under (codes "subfields") place.Field c
+names_by_kind selected kind.Hardware c = names_of_hardware c
+names_by_kind selected kind.Operand c = names_of_operand c
+names_by_kind selected kind.Derived c = names_of_derived c
+names_by_kind selected kind.Anyof c = names_under (codes "choices") place.Choice c
+names_by_kind selected kind.Insn c = names_of_insn c
+names_by_kind selected _ c = []
+
+abbrev pub names_in : Bool → Kind → Clause → List Reference
+names_in selected k c = if same_text (codes "attrs") c.name then attributes c.content else names_by_kind selected k c
 
 -- The names in a form that an element of this kind gives.
-abbrev pub references : Kind → Form → List Reference
-references k f = flat_map (names_in k) (clauses_of k f)
+abbrev pub references : Bool → Kind → Form → List Reference
+references selected k f = flat_map (names_in selected k) (clauses_of k f)

@@ -2,14 +2,14 @@
 
 ghost use Rattle.std.specs.Prelude.{◌≡◌, ◌||◌, is_some};
 ghost use Rattle.cg_element.specs.declared.kind.Namespace.TheVariants.{Fields, Operands, Constants};
-ghost use Rattle.cg_references.specs.Table.{known};
+ghost use Rattle.cg_known.specs.Table.{known};
 ghost use Rattle.cg_references.specs.Finding.{stands_as, is_plain_field, is_plain_operand, is_choice, is_slot, is_field_constant, is_known_attribute, is_part, fits, may_be_operand, is_hidden, is_named_kind, is_defined, is_attribute, found};
 
-use crate::names::{Names, Standing};
 use crate::reference::Place;
 use cg_attrs::{is_bitset, is_known_flag};
 use cg_base::Text;
 use cg_element::{Kind, Namespace};
+use cg_known::{Names, Standing};
 
 /// What a name stands for where it stands.
 #[derive(Clone, Copy, PartialEq, Eq)]
@@ -132,6 +132,7 @@ fn fits(names: &Names, place: Place, name: &Text) -> bool
         Place::Isa => names.first(Namespace::Isas, name).is_some(),
         Place::Cpu => names.first(Namespace::Cpus, name).is_some(),
         Place::Model => names.first(Namespace::Models, name).is_some(),
+        Place::Unit => true,
         Place::Attribute => is_known_attribute(
             name.as_slice(),
             names.first(Namespace::Attrs, name),

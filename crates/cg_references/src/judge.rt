@@ -3,13 +3,15 @@
 ghost use Rattle.std.specs.Prelude.{◌≡◌};
 ghost use Rattle.std.specs.Option.{option_copied};
 ghost use Rattle.cg_base.specs.Refusing.{first};
-ghost use Rattle.cg_references.specs.Table.{known};
+ghost use Rattle.cg_known.specs.Table.{known};
 ghost use Rattle.cg_references.specs.E304.{is_of_another_kind, of_another_kind};
 ghost use Rattle.cg_references.specs.E306.{is_undefined, undefined};
 
 use crate::finding::{Finding, found};
-use crate::names::Names;
-use crate::reference::Reference;
+use crate::reference::{Place, Reference};
+use crate::units::lacks_unit;
+use cg_element::{Element, Namespace};
+use cg_known::Names;
 
 /// Whether the name stands for something of another kind than its place takes.
 fn is_of_another_kind(names: &Names, reference: &Reference) -> bool
@@ -19,10 +21,16 @@ fn is_of_another_kind(names: &Names, reference: &Reference) -> bool
 }
 
 /// Whether the name stands for nothing.
-fn is_undefined(names: &Names, reference: &Reference) -> bool
-    ensures { result ≡ is_undefined (known names.now) reference.now }
+fn is_undefined(names: &Names, elements: &[Element], reference: &Reference) -> bool
+    ensures { result ≡ is_undefined (known names.now) elements.now reference.now }
 {
-    found(names, reference.place, &reference.name) == Finding::Undefined
+    match reference.place {
+        Place::Unit => {
+            let model = names.first(Namespace::Models, &reference.model);
+            lacks_unit(elements, &reference.name, model)
+        }
+        place => found(names, place, &reference.name) == Finding::Undefined,
+    }
 }
 
 /// The text of the first E304 of these names: one that stands for something of another kind than its
@@ -38,13 +46,18 @@ pub fn first_of_another_kind<'a>(names: &Names, references: &'a [Reference]) -> 
     None
 }
 
-/// The text of the first E306 of these names: one that stands for nothing that the machine has. None
-/// exactly where there is none (docs/REFUSALS.md).
-pub fn first_undefined<'a>(names: &Names, references: &'a [Reference]) -> Option<&'a [u8]>
-    ensures { option_copied result ≡ first (undefined (known names.now) references.now) }
+/// The text of the first E306 of these names: one that stands for nothing that the machine has; of a
+/// unit, that its model has. The elements are those of the description. None exactly where there is
+/// none (docs/REFUSALS.md).
+pub fn first_undefined<'a>(
+    names: &Names,
+    elements: &[Element],
+    references: &'a [Reference],
+) -> Option<&'a [u8]>
+    ensures { option_copied result ≡ first (undefined (known names.now) elements.now references.now) }
 {
     for reference in references {
-        if is_undefined(names, reference) {
+        if is_undefined(names, elements, reference) {
             return Some(reference.name.as_slice());
         }
     }

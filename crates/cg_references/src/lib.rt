@@ -5,16 +5,13 @@
 
 mod clauses;
 mod finding;
-mod items;
 mod judge;
-mod names;
 mod reference;
 mod references;
+mod units;
 
 pub use clauses::clauses_of;
 pub use finding::{Finding, found};
-pub use items::{Item, constants_in, items_of};
 pub use judge::{first_of_another_kind, first_undefined};
-pub use names::{Names, Standing, counted_name};
 pub use reference::{Place, Reference};
-pub use references::references_of;
+pub use references::{parts_in, references_of};

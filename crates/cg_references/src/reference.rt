@@ -11,6 +11,8 @@ pub enum Place {
     Cpu,
     /// A model of `timing`.
     Model,
+    /// A unit of `timing`, of the model that stands with it.
+    Unit,
     /// An attribute.
     Attribute,
     /// The keyword of `extern-keyword`.
@@ -42,4 +44,6 @@ pub struct Reference {
     pub place: Place,
     /// The name.
     pub name: Text,
+    /// The model of a unit; empty at all other places.
+    pub model: Text,
 }

@@ -7,7 +7,7 @@ ghost use Rattle.cg_base.specs.Parts.{headed_in};
 ghost use Rattle.cg_insn.specs.Syntax.{pieces_of};
 ghost use Rattle.cg_attrs.specs.Clauses.{seen_clause};
 ghost use Rattle.cg_attrs.specs.Contents.{only_elements};
-ghost use Rattle.cg_references.specs.References.{reference, symbols, attributes, keywords, indices, slots, syntax, constant_in, part, parts_in, parts, listed, model, names_of_mach, names_of_arch, names_of_hardware, names_of_operand, names_of_coding, names_of_derived, names_of_insn, names_under, names_by_kind, names_in, references};
+ghost use Rattle.cg_references.specs.References.{reference, symbols, attributes, keywords, indices, slots, syntax, constant_in, part, parts_in, parts, listed, unit_first, units, model, names_of_isa, names_of_mach, names_of_arch, names_of_hardware, names_of_operand, names_of_coding, names_of_derived, names_of_insn, names_under, names_by_kind, names_in, references};
 
 use crate::clauses::clauses_of;
 use crate::reference::{Place, Reference};
@@ -21,9 +21,11 @@ use std::alloc::Global;
 fn put(list: &mut List<Reference>, place: Place, name: &Text) -> Result<(), NoMemory>
     ensures { OnOk result (list.new ≡ list.old ++ reference place name.now ∷ []) }
 {
+    let model = Text::new(list.allocator());
     list.push(Reference {
         place,
         name: name.clone()?,
+        model,
     })
 }
 
@@ -151,8 +153,9 @@ fn listed(forms: &[Form]) -> Option<(&Text, &[Form])>
     only(forms)?.headed()
 }
 
-/// The parts of a format or an encoding.
-fn parts_in(forms: &[Form]) -> &[Form]
+/// The parts of a format or an encoding, by what stands behind the clause's name: those behind `+`, in a
+/// list of their own or without (docs/LANGUAGE.md, "Instructions").
+pub fn parts_in(forms: &[Form]) -> &[Form]
     ensures { result.now ≡ parts_in (option_or (headed_in forms.now) (listed forms.now)) }
 {
     match headed_in(forms) {
@@ -174,14 +177,54 @@ fn put_parts(list: &mut List<Reference>, place: Place, forms: &[Form]) -> Result
     Ok(())
 }
 
-/// Puts the models of `timing` at the end.
+/// Puts a unit of a model at the end, where it is named first.
+fn put_unit(list: &mut List<Reference>, model: &Text, forms: &[Form]) -> Result<(), NoMemory>
+    ensures { OnOk result (list.new ≡ list.old ++ unit_first model.now forms.now) }
+{
+    match forms {
+        [first, ..] => match first.symbol() {
+            Some(name) => list.push(Reference {
+                place: Place::Unit,
+                name: name.clone()?,
+                model: model.clone()?,
+            }),
+            None => Ok(()),
+        },
+        _ => Ok(()),
+    }
+}
+
+/// Puts the units of a model at the end.
+fn put_units(list: &mut List<Reference>, model: &Text, forms: &[Form]) -> Result<(), NoMemory>
+    ensures { OnOk result (list.new ≡ list.old ++ units model.now forms.now) }
+{
+    for form in forms {
+        if let Some((_, behind)) = form.headed() {
+            put_unit(list, model, behind)?;
+        }
+    }
+    Ok(())
+}
+
+/// Puts a model of `timing` and its units at the end.
+fn put_model(list: &mut List<Reference>, form: &Form) -> Result<(), NoMemory>
+    ensures { OnOk result (list.new ≡ list.old ++ model form.now) }
+{
+    match form.headed() {
+        Some((name, units)) => {
+            put(list, Place::Model, name)?;
+            put_units(list, name, units)
+        }
+        None => Ok(()),
+    }
+}
+
+/// Puts the models of `timing` and their units at the end.
 fn put_models(list: &mut List<Reference>, forms: &[Form]) -> Result<(), NoMemory>
     ensures { OnOk result (list.new ≡ list.old ++ flat_map model forms.now) }
 {
     for form in forms {
-        if let Some((name, _)) = form.headed() {
-            put(list, Place::Model, name)?;
-        }
+        put_model(list, form)?;
     }
     Ok(())
 }
@@ -296,16 +339,32 @@ fn put_of_insn(
     }
 }
 
+fn put_of_isa(
+    list: &mut List<Reference>,
+    selected: bool,
+    clause: Clause<'_>,
+) -> Result<(), NoMemory>
+    ensures { OnOk result (list.new ≡ list.old ++ names_of_isa selected (seen_clause clause.entry)) }
+{
+    if selected {
+        put_under(list, b"bundle-field", Place::Field, clause)
+    } else {
+        Ok(())
+    }
+}
+
 /// Puts the names in a clause at the end, by the kind of form that it stands in.
 fn put_by_kind(
     alloc: Global,
     list: &mut List<Reference>,
+    selected: bool,
     kind: Kind,
     clause: Clause<'_>,
 ) -> Result<(), NoMemory>
-    ensures { OnOk result (list.new ≡ list.old ++ names_by_kind kind (seen_clause clause.entry)) }
+    ensures { OnOk result (list.new ≡ list.old ++ names_by_kind selected kind (seen_clause clause.entry)) }
 {
     match kind {
+        Kind::Isa => put_of_isa(list, selected, clause),
         Kind::Arch => put_of_arch(list, clause),
         Kind::Mach => put_of_mach(list, clause),
         Kind::Model => put_under(list, b"mach", Place::Mach, clause),
@@ -324,27 +383,34 @@ fn put_by_kind(
 fn put_names(
     alloc: Global,
     list: &mut List<Reference>,
+    selected: bool,
     kind: Kind,
     clause: Clause<'_>,
 ) -> Result<(), NoMemory>
-    ensures { OnOk result (list.new ≡ list.old ++ names_in kind (seen_clause clause.entry)) }
+    ensures { OnOk result (list.new ≡ list.old ++ names_in selected kind (seen_clause clause.entry)) }
 {
     match clause.name {
         b"attrs" => put_attributes(alloc, list, clause.content),
-        _ => put_by_kind(alloc, list, kind, clause),
+        _ => put_by_kind(alloc, list, selected, kind, clause),
     }
 }
 
 /// The names in a form that stand for other elements, where the form gives an element of this kind,
 /// in the order of their places in the form from left to right (docs/LANGUAGE.md, "Names"). Names in
-/// expressions are not among them.
-pub fn references_of(alloc: Global, kind: Kind, form: &Form) -> Result<List<Reference>, NoMemory>
-    ensures { IfOk result (λ list. list ≡ references kind form.now) }
+/// expressions are not among them. `selected` says whether the form is that of the selected
+/// instruction set: its `bundle-field` is asked alone.
+pub fn references_of(
+    alloc: Global,
+    selected: bool,
+    kind: Kind,
+    form: &Form,
+) -> Result<List<Reference>, NoMemory>
+    ensures { IfOk result (λ list. list ≡ references selected kind form.now) }
 {
     let clauses = clauses_of(alloc, kind, form)?;
     let mut list = List::new(alloc);
     for clause in clauses.as_slice() {
-        put_names(alloc, &mut list, kind, *clause)?;
+        put_names(alloc, &mut list, selected, kind, *clause)?;
     }
     Ok(list)
 }

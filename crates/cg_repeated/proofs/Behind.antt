@@ -7,7 +7,7 @@ use Rattle.cg_base.specs.Refusing.{first}
 use Rattle.cg_attrs.specs.declared.clauses.Clause as declared
 use Rattle.cg_attrs.specs.Clauses.{Clause, seen_clause}
 use Rattle.cg_element.specs.declared.element.Element.{Element}
-use Rattle.cg_references.specs.Table.{Table}
+use Rattle.cg_known.specs.Table.{Table}
 use Rattle.cg_repeated.specs.E305.{repeated_at, repeated_behind}
 use Rattle.cg_repeated.proofs.Firsts.{first_append}
 

@@ -9,10 +9,10 @@ use Rattle.cg_element.specs.declared.element.Element.{Element}
 use Rattle.cg_element.specs.declared.kind.Namespace.TheVariants.{Constants}
 use Rattle.cg_element.specs.Kinds.{namespace_of}
 use Rattle.cg_element.specs.Elements.{kind_of, name_of}
-use Rattle.cg_references.specs.declared.items.Item.{Item}
-use Rattle.cg_references.specs.declared.names.Standing.{Standing}
-use Rattle.cg_references.specs.Items.{constants_in}
-use Rattle.cg_references.specs.Table.{Table, counted_name}
+use Rattle.cg_known.specs.declared.items.Item.{Item}
+use Rattle.cg_known.specs.declared.names.Standing.{Standing}
+use Rattle.cg_known.specs.Items.{constants_in}
+use Rattle.cg_known.specs.Table.{Table, counted_name}
 use Rattle.cg_references.specs.Clauses.{clauses_of}
 
 -- The first of the name stands in this form and at this place in it.

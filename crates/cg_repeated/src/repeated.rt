@@ -4,14 +4,15 @@ ghost use Rattle.std.specs.Prelude.{◌≡◌, map, take, length, ◌≤◌, IfO
 ghost use Rattle.std.specs.Option.{option_copied};
 ghost use Rattle.cg_base.specs.Refusing.{first};
 ghost use Rattle.cg_attrs.specs.Clauses.{seen_clause};
-ghost use Rattle.cg_references.specs.Table.{known};
+ghost use Rattle.cg_known.specs.Table.{known};
 ghost use Rattle.cg_repeated.specs.E305.{stands_here, own_repeated, items_repeated, constants_repeated, repeated_in, repeated_at, repeated, e305};
 
 use crate::units::{front, unit_repeated};
 use cg_attrs::Clause;
 use cg_base::{Form, NoMemory, Text};
 use cg_element::{Element, Namespace};
-use cg_references::{Item, Names, Standing, clauses_of, constants_in, counted_name};
+use cg_known::{Item, Names, Standing, constants_in, counted_name};
+use cg_references::clauses_of;
 use std::alloc::Global;
 
 /// Whether the first with a name stands in this form and at this place in it.

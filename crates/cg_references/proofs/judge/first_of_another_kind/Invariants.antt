@@ -1,6 +1,6 @@
 use Rattle.std.proofs.Common.{◌≡◌, drop}
 use Rattle.cg_base.specs.Refusing.{first}
-use Rattle.cg_references.specs.Table.{known}
+use Rattle.cg_known.specs.Table.{known}
 use Rattle.cg_references.specs.E304.{of_another_kind}
 use Rattle.cg_references.proofs.judge.first_of_another_kind.Given as goal
 

@@ -1,8 +1,8 @@
-use Rattle.std.proofs.Common.{rules, ◌≡◌, ◌+◌, map, drop, sym, ap, ◌∙◌}
+use Rattle.std.proofs.Common.{rules, ◌+◌, map, drop, sym, ap, ◌∙◌}
 use Rattle.std.specs.Option.{option_or}
 use Rattle.cg_base.specs.Refusing.{first}
 use Rattle.cg_attrs.specs.Clauses.{seen_clause}
-use Rattle.cg_references.specs.Table.{known}
+use Rattle.cg_known.specs.Table.{known}
 use Rattle.cg_repeated.specs.E305.{repeated_behind}
 use Rattle.cg_repeated.proofs.Behind.{behind_more}
 use Rattle.cg_repeated.proofs.repeated.first_in.Goals as goal

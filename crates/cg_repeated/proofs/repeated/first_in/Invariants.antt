@@ -1,7 +1,7 @@
 use Rattle.std.proofs.Common.{◌≡◌, drop, map}
 use Rattle.cg_base.specs.Refusing.{first}
 use Rattle.cg_attrs.specs.Clauses.{seen_clause}
-use Rattle.cg_references.specs.Table.{known}
+use Rattle.cg_known.specs.Table.{known}
 use Rattle.cg_repeated.specs.E305.{repeated_behind, repeated}
 use Rattle.cg_repeated.proofs.repeated.first_in.Given as goal
 

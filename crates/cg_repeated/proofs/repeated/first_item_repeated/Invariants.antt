@@ -1,6 +1,6 @@
 use Rattle.std.proofs.Common.{◌≡◌, ◌+◌, drop}
 use Rattle.cg_base.specs.Refusing.{first}
-use Rattle.cg_references.specs.Table.{known}
+use Rattle.cg_known.specs.Table.{known}
 use Rattle.cg_repeated.specs.E305.{items_repeated}
 use Rattle.cg_repeated.proofs.repeated.first_item_repeated.Given as goal
 

@@ -2,8 +2,8 @@ use Rattle.std.proofs.Common.{◌≡◌, ℕ, ◌+◌, List, drop}
 use Rattle.std.specs.Option.{option_or}
 use Rattle.indexmap.specs.IndexMap.{get}
 use Rattle.cg_base.specs.Texts.{same_text}
-use Rattle.cg_references.specs.Table.{first_item}
-use Rattle.cg_references.proofs.names.add_items.Given as goal
+use Rattle.cg_known.specs.Table.{first_item}
+use Rattle.cg_known.proofs.names.add_items.Given as goal
 
 -- what the names say, with what is left, is what they said and the whole says
 abbrev pub invariant-loop-place : goal.invariant-loop-place

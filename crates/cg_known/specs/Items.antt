@@ -10,7 +10,7 @@ use Rattle.cg_attrs.specs.Contents.{item_value, next_value}
 use Rattle.cg_attrs.specs.declared.frame.Frame.TheVariants.{Enum, InsnEnum}
 use Rattle.cg_element.specs.declared.element.Element.{Element}
 use Rattle.cg_element.specs.declared.element.Element.TheVariants.{Frame}
-use Rattle.cg_references.specs.declared.items.Item.{Item}
+use Rattle.cg_known.specs.declared.items.Item.{Item}
 
 -- the text of a symbol, a string, or a number in decimal
 abbrev pub written_in : Layer → List ℕ

@@ -3,7 +3,7 @@
 ghost use Rattle.std.specs.Prelude.{◌≡◌, pos, [], Some, ◌++◌, IfOk, OnOk};
 ghost use Rattle.std.specs.Option.{option_copied, unwrap_or};
 ghost use Rattle.cg_base.specs.Parts.{elements_of};
-ghost use Rattle.cg_references.specs.Items.{written, first_written, item_name, item_before, items_of, constants_in};
+ghost use Rattle.cg_known.specs.Items.{written, first_written, item_name, item_before, items_of, constants_in};
 
 use cg_attrs::{Frame, item_value, next_value};
 use cg_base::{Form, List, NoMemory, Text, decimal};

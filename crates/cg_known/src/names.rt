@@ -4,7 +4,7 @@ ghost use Rattle.std.specs.Prelude.{◌≡◌, ℕ, List, IfOk, OnOk};
 ghost use Rattle.std.specs.Option.{option_copied, option_or};
 ghost use Rattle.indexmap.specs.IndexMap.{get};
 ghost use Rattle.cg_base.specs.Texts.{same_text, is_among};
-ghost use Rattle.cg_references.specs.Table.{counts_among, counted_name, at_name, Keeps, constant_kind, first_item, first_constant_in, built_in_hardware, built_in, KeepsTwo, KeepsFrames, KeepsWords, KeepsElements, KeepsConstants, KeepsOthers, KeepsFrameNames, KeepsElementNames, KeepsAll, table_of, kept, known};
+ghost use Rattle.cg_known.specs.Table.{counts_among, counted_name, at_name, Keeps, constant_kind, first_item, first_constant_in, built_in_hardware, built_in, KeepsTwo, KeepsFrames, KeepsWords, KeepsElements, KeepsConstants, KeepsOthers, KeepsFrameNames, KeepsElementNames, KeepsAll, table_of, kept, known, gives_isa};
 
 use crate::items::{Item, constants_in};
 use cg_base::{NoMemory, Text};
@@ -21,6 +21,8 @@ pub struct Standing {
     pub item: usize,
     /// What it is.
     pub kind: Kind,
+    /// The value of a constant; 0 of all else.
+    pub value: i64,
 }
 
 /// Where the elements of two kinds stand that share their names, by their names.
@@ -110,6 +112,7 @@ fn names_of(
                 form: place + 1,
                 item: 0,
                 kind: element.kind(),
+                value: 0,
             };
             add(&mut names, counted_name(alloc, element)?, at)?;
         }
@@ -141,6 +144,7 @@ fn add_items(
             form,
             item: place + 1,
             kind,
+            value: item.value,
         };
         add(names, item.name.clone()?, at)?;
     }
@@ -314,6 +318,7 @@ const BUILT_IN_HARDWARE: Standing = Standing {
     form: 0,
     item: 0,
     kind: Kind::Hardware,
+    value: 0,
 };
 
 /// Where the operand `pc` stands.
@@ -321,6 +326,7 @@ const THE_PC: Standing = Standing {
     form: 0,
     item: 0,
     kind: Kind::Pc,
+    value: 0,
 };
 
 /// The names of macro instructions and constants.
@@ -433,6 +439,20 @@ impl Names {
         match built_in(among, name.as_slice()) {
             Some(at) => Some(at),
             None => self.kept(among, name),
+        }
+    }
+
+    /// Whether the form of this number gives the instruction set that the machine is selected with.
+    /// Forms are numbered from 1.
+    pub fn gives_isa(&self, isa: Option<&Text>, form: usize) -> bool
+        ensures { result ≡ gives_isa (known self.now) (option_copied isa.entry) form }
+    {
+        match isa {
+            Some(name) => match self.first(Namespace::Isas, name) {
+                Some(at) => at.form == form,
+                None => false,
+            },
+            None => false,
         }
     }
 }

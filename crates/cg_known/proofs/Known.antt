@@ -4,8 +4,8 @@ use Rattle.std.specs.Option.{option_or}
 use Rattle.cg_element.specs.declared.element.Element.{Element}
 use Rattle.cg_element.specs.declared.kind.Namespace.{Namespace}
 use Rattle.cg_element.specs.declared.kind.Namespace.TheVariants.{Archs, Isas, Cpus, Machs, Models, Attrs, Enums, Keywords, Fields, Hardwares, Operands, Insns, Macros, Constants}
-use Rattle.cg_references.specs.declared.names.Names.{Names}
-use Rattle.cg_references.specs.Table.{Keeps, KeepsTwo, KeepsFrames, KeepsWords, KeepsElements, KeepsConstants, KeepsOthers, KeepsFrameNames, KeepsElementNames, KeepsAll, built_in, table_of, known}
+use Rattle.cg_known.specs.declared.names.Names.{Names}
+use Rattle.cg_known.specs.Table.{Keeps, KeepsTwo, KeepsFrames, KeepsWords, KeepsElements, KeepsConstants, KeepsOthers, KeepsFrameNames, KeepsElementNames, KeepsAll, built_in, table_of, known}
 
 -- name by name
 pub known_at : (machine : List ℕ) (isa : Option (List ℕ)) (es : List Element) (names : Names) → KeepsAll machine isa es names → (among : Namespace) (name : List ℕ) → known names among name ≡ table_of machine isa es among name

@@ -1,8 +1,8 @@
 -- Which names a machine knows: where the first with a name stands, among those that share their names.
-use Rattle.std.specs.Prelude.{◌≡◌, ℕ, ◌+◌, Bool, true, false, ◌&&◌, if◌then◌else◌, List, [], ◌∷◌, Option, Some, None, codes}
+use Rattle.std.specs.Prelude.{◌≡◌, ℕ, ◌+◌, pos, Bool, true, false, ◌&&◌, ◌==◌, if◌then◌else◌, List, [], ◌∷◌, Option, Some, None, codes}
 use Rattle.std.specs.Option.{option_or}
 use Rattle.indexmap.specs.IndexMap.{get}
-use Rattle.cg_base.specs.Texts.{same_text, is_among}
+use Rattle.cg_base.specs.Texts.{same_text, is_among, passes}
 use Rattle.cg_element.specs.declared.kind.Kind.{Kind}
 use Rattle.cg_element.specs.declared.kind.Kind.TheVariants as kind
 use Rattle.cg_element.specs.declared.kind.Namespace.{Namespace}
@@ -11,22 +11,25 @@ use Rattle.cg_element.specs.declared.element.Element.{Element}
 use Rattle.cg_element.specs.Kinds.{namespace_of}
 use Rattle.cg_element.specs.Elements.{kind_of, name_of}
 use Rattle.cg_element.specs.Belonging.{takes_part}
-use Rattle.cg_references.specs.declared.items.Item.{Item}
-use Rattle.cg_references.specs.declared.names.Standing.{Standing}
-use Rattle.cg_references.specs.declared.names.Two.{Two}
-use Rattle.cg_references.specs.declared.names.Four.{Four}
-use Rattle.cg_references.specs.declared.names.FrameNames.{FrameNames}
-use Rattle.cg_references.specs.declared.names.ElementNames.{ElementNames}
-use Rattle.cg_references.specs.declared.names.Names.{Names}
-use Rattle.cg_references.specs.Items.{constants_in}
+use Rattle.cg_known.specs.declared.items.Item.{Item}
+use Rattle.cg_known.specs.declared.names.Standing.{Standing}
+use Rattle.cg_known.specs.declared.names.Two.{Two}
+use Rattle.cg_known.specs.declared.names.Four.{Four}
+use Rattle.cg_known.specs.declared.names.FrameNames.{FrameNames}
+use Rattle.cg_known.specs.declared.names.ElementNames.{ElementNames}
+use Rattle.cg_known.specs.declared.names.Names.{Names}
+use Rattle.cg_known.specs.Items.{constants_in}
 
 -- For those that share their names: where the first with a name stands, which is the number of its form, 0 for what is built in, and
--- the place of a constant among those of its form, 0 for the form's own name.
+-- the place of a constant among those of its form, 0 for the form's own name; and the value of a constant, 0 of all else.
 abbrev pub Table : Type 0
 Table = Namespace → List ℕ → Option Standing
 
 abbrev pub standing : ℕ → ℕ → Kind → Standing
-standing form item k = record { form = form; item = item; kind = k }
+standing form item k = record { form = form; item = item; kind = k; value = pos 0 }
+
+abbrev pub constant_standing : ℕ → ℕ → Kind → Item → Standing
+constant_standing form item k x = record { form = form; item = item; kind = k; value = x.value }
 
 abbrev pub same_namespace : Namespace → Namespace → Bool
 same_namespace Archs Archs = true
@@ -81,7 +84,7 @@ constant_kind _ = kind.Constant
 -- Where the first constant with this name stands among those of a form, the first of which has the place `item`.
 abbrev pub first_item : ℕ → Kind → List ℕ → ℕ → List Item → Option Standing
 first_item form k name item [] = None
-first_item form k name item (x ∷ xs) = option_or (at_name x.name (standing form item k) name) (first_item form k name (item + 1) xs)
+first_item form k name item (x ∷ xs) = option_or (at_name x.name (constant_standing form item k x) name) (first_item form k name (item + 1) xs)
 
 unfoldable pub first_constant_in : ℕ → List ℕ → Element → Option Standing
 first_constant_in form name e = first_item form (constant_kind (kind_of e)) name 1 (constants_in e)
@@ -157,3 +160,7 @@ kept names Constants name = get same_text names.elements.others.second name
 
 unfoldable pub known : Names → Table
 known names among name = option_or (built_in among name) (kept names among name)
+
+-- The form of this number gives the selected instruction set.
+abbrev pub gives_isa : Table → Option (List ℕ) → ℕ → Bool
+gives_isa at isa form = passes (λ name. passes (λ s. s.form == form) (at Isas name)) isa

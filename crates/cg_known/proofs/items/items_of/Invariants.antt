@@ -1,6 +1,6 @@
 use Rattle.std.proofs.Common.{◌≡◌, ◌++◌, drop}
-use Rattle.cg_references.specs.Items.{items_from, items_of}
-use Rattle.cg_references.proofs.items.items_of.Given as goal
+use Rattle.cg_known.specs.Items.{items_from, items_of}
+use Rattle.cg_known.proofs.items.items_of.Given as goal
 
 -- the items so far, with those of what is left, are those of the whole
 abbrev pub invariant-loop-form : goal.invariant-loop-form
