@@ -17,7 +17,7 @@ pub(crate) enum Around<'a> {
 }
 
 /// The elements of a list, and none of what is no list.
-pub(crate) fn elements_or_none(form: &Form) -> &[Form]
+pub fn elements_or_none(form: &Form) -> &[Form]
     ensures { result.now ≡ elements_or_none form.now }
 {
     form.elements().unwrap_or(&[])
@@ -34,7 +34,7 @@ pub(crate) fn name_first(forms: &[Form]) -> &[u8]
 }
 
 /// What stands behind the first form.
-pub(crate) fn behind_first(forms: &[Form]) -> &[Form]
+pub fn behind_first(forms: &[Form]) -> &[Form]
     ensures { result.now ≡ drop 1 forms.now }
 {
     match forms.split_first() {
@@ -44,7 +44,7 @@ pub(crate) fn behind_first(forms: &[Form]) -> &[Form]
 }
 
 /// The name of a local.
-pub(crate) fn local_name(local: &Form) -> &[u8]
+pub fn local_name(local: &Form) -> &[u8]
     ensures { result.now ≡ local_name local.now }
 {
     name_first(behind_first(elements_or_none(local)))

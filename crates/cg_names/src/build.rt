@@ -74,7 +74,7 @@ fn text_first(forms: &[Form]) -> &[u8]
 }
 
 /// The elements of the list that stands first.
-pub(crate) fn elements_first(forms: &[Form]) -> &[Form]
+pub fn elements_first(forms: &[Form]) -> &[Form]
     ensures { result.now ≡ spec.elements_first forms.now }
 {
     match forms.first() {
@@ -84,7 +84,7 @@ pub(crate) fn elements_first(forms: &[Form]) -> &[Form]
 }
 
 /// The first form alone.
-pub(crate) fn first_alone(forms: &[Form]) -> &[Form]
+pub fn first_alone(forms: &[Form]) -> &[Form]
     ensures { result.now ≡ take 1 forms.now }
 {
     &forms[..forms.len().min(1)]

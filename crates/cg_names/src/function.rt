@@ -8,7 +8,7 @@ use cg_model::Op;
 
 /// How a function is read.
 #[derive(Clone, Copy)]
-pub(crate) enum Function {
+pub enum Function {
     /// An operation of this kind and number, whose items are expressions.
     Operation(Op, u8),
     /// The same with an item in front that stands for nothing.
@@ -138,7 +138,7 @@ fn all_functions() -> &'static [Named]
 
 /// How the function of this name is read. None exactly where there is none.
 #[tactic(auto, unfolding(crate::specs::Names::function_of))]
-pub(crate) fn function_of(name: &[u8]) -> Option<Function>
+pub fn function_of(name: &[u8]) -> Option<Function>
     ensures { result ≡ function_of name.now }
 {
     function_among(all_functions(), name)

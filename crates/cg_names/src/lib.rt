@@ -11,5 +11,8 @@ mod resolver;
 mod scope;
 mod words;
 
+pub use around::{behind_first, elements_or_none, local_name};
+pub use build::{elements_first, first_alone};
+pub use function::{Function, function_of};
 pub use resolver::resolve;
 pub use scope::{EnumValue, Rule, Scope};

@@ -1,0 +1,4 @@
+pub mod Meeting
+pub mod Depths
+pub mod Taking
+pub mod Steps

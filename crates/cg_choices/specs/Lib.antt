@@ -1,0 +1,5 @@
+pub mod Putting
+pub mod Choices
+pub mod Ways
+pub mod Walking
+pub mod Holding

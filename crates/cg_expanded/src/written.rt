@@ -1,0 +1,99 @@
+//! An instruction as its form says it.
+
+ghost use Rattle.std.specs.Prelude.{◌≡◌, [], IfOk};
+ghost use Rattle.std.specs.Option.{option_copied, unwrap_or};
+ghost use Rattle.cg_insn.specs.Syntax.{pieces_of};
+ghost use Rattle.cg_known.specs.Table.{known};
+ghost use Rattle.cg_expanded.specs.Written.{only_in, expression_in, expressions_in, pieces_from, all_pieces, written_of};
+
+use crate::parts::{own_spot, parts_of};
+use cg_base::{Form, List, NoMemory, Stop, Text, only};
+use cg_choices::{Written, WrittenPiece};
+use cg_element::Element;
+use cg_insn::{InstructionForm, NamedPiece, pieces};
+use cg_known::Names;
+use cg_references::Place;
+use std::alloc::Global;
+
+/// The one form that stands behind a clause's name.
+#[tactic(auto, unfolding(crate::specs::Written::only_in))]
+fn only_in(clause: &Form) -> Option<&Form>
+    ensures { option_copied result ≡ only_in clause.now }
+{
+    only(clause.elements()?)
+}
+
+/// The expression that stands behind a clause's name.
+pub(crate) fn expression_in(clause: &Form) -> &Form
+    ensures { result.now ≡ expression_in clause.now }
+{
+    match only_in(clause) {
+        Some(form) => form,
+        None => clause,
+    }
+}
+
+/// The expression of a clause that may be absent, if it stands.
+fn expressions_in(alloc: Global, clause: Option<&Form>) -> Result<List<Form>, NoMemory>
+    ensures { IfOk result (λ list. list ≡ expressions_in (option_copied clause.entry)) }
+{
+    let mut list = List::new(alloc);
+    if let Some(clause) = clause {
+        list.push(expression_in(clause).clone()?)?;
+    }
+    Ok(list)
+}
+
+/// The pieces of a syntax, none of what is no syntax.
+fn pieces_or_none(alloc: Global, text: &Text) -> Result<List<NamedPiece>, NoMemory>
+    ensures { IfOk result (λ list. list ≡ unwrap_or (pieces_of text.now) []) }
+{
+    match pieces(alloc, text) {
+        Ok(list) => Ok(list),
+        Err(Stop::Refused(_)) => Ok(List::new(alloc)),
+        Err(Stop::NoMemory) => Err(NoMemory),
+    }
+}
+
+/// The pieces, each with its place among them.
+fn placed(alloc: Global, pieces: &[NamedPiece]) -> Result<List<WrittenPiece>, NoMemory>
+    ensures { IfOk result (λ list. list ≡ pieces_from 0 pieces.now) }
+{
+    let mut list = List::new(alloc);
+    for (item, piece) in pieces.iter().enumerate() {
+        list.push(WrittenPiece {
+            piece: piece.clone()?,
+            spot: own_spot(item),
+        })?;
+    }
+    Ok(list)
+}
+
+/// The pieces of a syntax, each with its place there.
+pub(crate) fn all_pieces(alloc: Global, text: &Text) -> Result<List<WrittenPiece>, NoMemory>
+    ensures { IfOk result (λ list. list ≡ all_pieces text.now) }
+{
+    let pieces = pieces_or_none(alloc, text)?;
+    placed(alloc, pieces.as_slice())
+}
+
+/// The instruction that the form of this number says, with its anyof operands.
+#[tactic(auto, unfolding(crate::specs::Written::written_of))]
+pub(crate) fn written_of(
+    alloc: Global,
+    names: &Names,
+    elements: &[Element],
+    form: usize,
+    instruction: &InstructionForm,
+) -> Result<Written, NoMemory>
+    ensures { IfOk result (λ written. written ≡ written_of (known names.now) elements.now form instruction.now) }
+{
+    Ok(Written {
+        form,
+        name: instruction.name.clone()?,
+        pieces: all_pieces(alloc, &instruction.syntax)?,
+        parts: parts_of(alloc, names, elements, Place::Part, &instruction.format)?,
+        assertions: expressions_in(alloc, instruction.ifield_assertion.as_ref())?,
+        semantics: expression_in(&instruction.semantics).clone()?,
+    })
+}
