@@ -1,0 +1,4 @@
+pub mod Known
+pub mod Parting
+pub mod Adding
+pub mod Alike

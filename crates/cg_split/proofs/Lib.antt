@@ -1,0 +1,4 @@
+pub mod Delimited
+pub mod Runs
+pub mod OneSplit
+pub mod Passing
