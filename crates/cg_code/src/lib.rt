@@ -14,4 +14,4 @@ pub use extracting::{extract, slot_mode, values_of, word_pc};
 pub use lengths::{insn_length, length};
 pub use lookups::{insn_at, operand_at};
 pub use matching::{asserted, matches};
-pub use putting::in_place;
+pub use putting::{in_place, put_bits};

@@ -52,9 +52,10 @@ fn put_near(machine: &Machine, field: &Field, number: u64, bytes: &mut [u8; 16])
     );
 }
 
-/// Sets the bits of a field. One past the 16 bytes, which no instruction has, is not set.
+/// Sets the bits of a field to a number; all others stay. One past the 16 bytes, which no instruction has,
+/// is not set (docs/LANGUAGE.md, "Fields").
 #[tactic(auto, using(crate::proofs::Soundness::setting))]
-fn put_bits(machine: &Machine, field: &Field, number: u64, bytes: &mut [u8; 16])
+pub fn put_bits(machine: &Machine, field: &Field, number: u64, bytes: &mut [u8; 16])
     requires placed { IsInWord field.now }
     requires number { number < 2 ^ field.now.length }
     ensures { bytes.new ≡ spec.with_bits machine.now field.now number bytes.old }

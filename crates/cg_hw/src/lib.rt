@@ -11,3 +11,4 @@ mod table;
 
 pub use form::HardwareForm;
 pub use read::read_hardware;
+pub use rule::expression;

@@ -56,8 +56,9 @@ fn first_list(forms: &[Form]) -> Option<&[Form]>
     }
 }
 
-/// The expression of a rule.
-fn expression(forms: &[Form]) -> Option<&Form>
+/// The expression of a rule, which stands behind its formals. None exactly where there aren't just these
+/// two (docs/LANGUAGE.md, "Hardware").
+pub fn expression(forms: &[Form]) -> Option<&Form>
     ensures { option_copied result ≡ expression forms.now }
 {
     match forms {

@@ -9,3 +9,4 @@ mod table;
 
 pub use form::{FieldForm, MultiForm, PlainForm};
 pub use read::read_field;
+pub use sets::{field_set, sets_behind};

@@ -53,9 +53,10 @@ fn set_in(elements: &[Form]) -> Option<(&Text, &Form)>
     }
 }
 
-/// The field that `(set (ifield f) e)` sets, and the expression.
+/// The field that `(set (ifield f) e)` sets, and the expression. None exactly where the form is no such
+/// list (docs/LANGUAGE.md, "Fields").
 #[tactic(auto, unfolding(crate::specs::Sets::set_of))]
-fn set(form: &Form) -> Option<(&Text, &Form)>
+pub fn field_set(form: &Form) -> Option<(&Text, &Form)>
     ensures { option_map (λ x. (x.0.now, x.1.now)) result ≡ set_of form.now }
 {
     set_in(elements_behind(form, b"set")?)
@@ -101,7 +102,7 @@ fn steps(form: &Form) -> Option<&[Form]>
 fn is_set(form: &Form) -> bool
     ensures { result ≡ is_set form.now }
 {
-    set(form).is_some()
+    field_set(form).is_some()
 }
 
 /// Whether each of the forms is a set of a field.
@@ -118,9 +119,10 @@ fn all_sets(forms: &[Form]) -> Option<&[Form]>
     if are_sets(forms) { Some(forms) } else { None }
 }
 
-/// The sets that stand behind a clause's name.
+/// The sets that stand behind the name of `insert` or `extract`: one, or those of a `sequence`. None
+/// exactly where anything else stands there (docs/LANGUAGE.md, "Fields").
 #[tactic(auto, unfolding(crate::specs::Sets::sets_of))]
-fn sets(forms: &[Form]) -> Option<&[Form]>
+pub fn sets_behind(forms: &[Form]) -> Option<&[Form]>
     ensures { option_copied result ≡ sets_of forms.now }
 {
     all_sets(steps(only(forms)?)?)
@@ -130,7 +132,7 @@ fn sets(forms: &[Form]) -> Option<&[Form]>
 fn sets_field(form: &Form, name: &[u8]) -> bool
     ensures { result ≡ sets_field name.now form.now }
 {
-    match set(form) {
+    match field_set(form) {
         Some((field, _)) => field.as_slice() == name,
         None => false,
     }
@@ -164,7 +166,7 @@ fn is_one_of(fields: &[Form], name: &[u8]) -> bool
 fn sets_one_of(fields: &[Form], form: &Form) -> bool
     ensures { result ≡ sets_one_of fields.now form.now }
 {
-    match set(form) {
+    match field_set(form) {
         Some((field, _)) => is_one_of(fields, field.as_slice()),
         None => false,
     }
@@ -236,7 +238,7 @@ fn itself_at(elements: &[Form]) -> Option<&[Form]>
 fn wrong_in_one(form: &Form) -> Option<&[u8]>
     ensures { option_copied result ≡ first (inside_one wrong_in (set_of form.now)) }
 {
-    match set(form) {
+    match field_set(form) {
         Some((_, expression)) => first_wrong_in(expression),
         None => None,
     }
@@ -259,7 +261,7 @@ fn wrong_in_sets(sets: &[Form]) -> Option<&[u8]>
 fn left_out_in_one(form: &Form) -> Option<&[u8]>
     ensures { option_copied result ≡ first (inside_one left_out_in (set_of form.now)) }
 {
-    match set(form) {
+    match field_set(form) {
         Some((_, expression)) => first_left_out_in(expression),
         None => None,
     }
@@ -282,7 +284,7 @@ fn left_out_in_sets(sets: &[Form]) -> Option<&[u8]>
 fn wrong_sets<'a>(fields: Option<&[Form]>, clause: Clause<'a>) -> Option<&'a [u8]>
     ensures { option_copied result ≡ first (wrong_sets (λ elements. option_copied fields.entry) (seen_clause clause.entry)) }
 {
-    match sets(clause.content) {
+    match sets_behind(clause.content) {
         Some(sets) => {
             if set_just(fields, sets) {
                 wrong_in_sets(sets)
@@ -312,7 +314,7 @@ pub(crate) fn wrong_extract<'a>(clause: Clause<'a>) -> Option<&'a [u8]>
 pub(crate) fn left_out_sets<'a>(clause: Clause<'a>) -> Option<&'a [u8]>
     ensures { option_copied result ≡ first (left_out_sets (seen_clause clause.entry)) }
 {
-    match sets(clause.content) {
+    match sets_behind(clause.content) {
         Some(sets) => left_out_in_sets(sets),
         None => None,
     }

@@ -14,5 +14,7 @@ mod words;
 pub use around::{behind_first, elements_or_none, local_name};
 pub use build::{elements_first, first_alone};
 pub use function::{Function, function_of};
-pub use resolver::resolve;
+pub use names::nothing;
+pub use resolver::{built, resolve};
 pub use scope::{EnumValue, Rule, Scope};
+pub use words::{address_mode, mode_named};

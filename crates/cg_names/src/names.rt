@@ -22,7 +22,7 @@ pub(crate) fn leaf(alloc: Global, op: Op, mode: Option<Mode>, number: i64) -> Rt
 }
 
 /// What stands where an expression has no meaning.
-pub(crate) fn nothing(alloc: Global) -> Rtl
+pub fn nothing(alloc: Global) -> Rtl
     ensures { result ≡ spec.nothing }
 {
     leaf(alloc, Op::Nop, None, 0)

@@ -70,9 +70,10 @@ fn built_to(alloc: Global, form: &Form, scope: &Scope, depth: u64) -> Result<Rtl
     Ok(rtl)
 }
 
-/// An expression with its names as numbers.
+/// An expression with its names as numbers, whatever is wrong with it: what stands for nothing, or has a
+/// wrong shape, stands for `(nop)`, and an error text that isn't among the scope's is numbered 0.
 #[tactic(auto, unfolding(crate::specs::Names::rtl_of))]
-fn built(alloc: Global, form: &Form, scope: &Scope) -> Result<Rtl, NoMemory>
+pub fn built(alloc: Global, form: &Form, scope: &Scope) -> Result<Rtl, NoMemory>
     ensures { IfOk result (λ rtl. rtl ≡ rtl_of scope.now form.now) }
 {
     built_to(alloc, form, scope, u64::MAX)

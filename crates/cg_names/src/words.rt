@@ -37,8 +37,8 @@ fn word_mode(bits: u8) -> Mode
     }
 }
 
-/// The mode of an address.
-fn address_mode(bits: u8) -> Mode
+/// The mode of an address, where the cpu's word has so many bits.
+pub fn address_mode(bits: u8) -> Mode
     ensures { result ≡ address_mode bits }
 {
     match bits {
@@ -110,8 +110,9 @@ fn meant(bits: u8, wording: Wording) -> Mode
     }
 }
 
-/// The mode that a word stands for. `DFLT` stands for none.
-fn mode_named(bits: u8, word: &[u8]) -> Option<Mode>
+/// The mode that a word stands for, where the cpu's word has so many bits (docs/LANGUAGE.md, "Modes").
+/// `DFLT` stands for none.
+pub fn mode_named(bits: u8, word: &[u8]) -> Option<Mode>
     ensures { result ≡ mode_named bits word.now }
 {
     match wording_among(mode_words(), word) {
