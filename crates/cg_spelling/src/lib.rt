@@ -11,4 +11,4 @@ pub use character::{has_words, is_in_label, is_label, lower, may_have};
 pub use keyword::{Keywords, keywords_of};
 pub use laws::same_spellings;
 pub use sum::sum_of;
-pub use word::spelled;
+pub use word::{cut, spelled, word_value};

@@ -27,8 +27,9 @@ fn same_word(one: &[u8], other: &[u8]) -> bool
     true
 }
 
-/// The value of the first word that a text is, letter case aside.
-fn word_value(words: &[NamedValue], text: &[u8]) -> Option<u64>
+/// The value of the first word that a text is, letter case aside. None exactly where it is none of them
+/// (docs/ASSEMBLY.md, "Statements").
+pub fn word_value(words: &[NamedValue], text: &[u8]) -> Option<u64>
     ensures { result ≡ spec.word_value words.now text.now }
 {
     for each in words {
@@ -50,8 +51,8 @@ fn slot_mode(machine: &Machine, operand: &Operand) -> Mode
     }
 }
 
-/// A number modulo 2^bits of a mode.
-fn cut(mode: Mode, number: u64) -> u64
+/// A number modulo 2^bits of a mode; 0 in VOID.
+pub fn cut(mode: Mode, number: u64) -> u64
     ensures { result ≡ number % 2 ^ bits_of mode }
 {
     match mode {
