@@ -14,5 +14,6 @@ pub use elements::{
     first_of_multi, first_of_operand, first_of_texts,
 };
 pub use moded::{
-    first_of_field_modes, first_of_hardware_modes, first_of_insn_modes, first_of_multi_modes,
+    Wanted, by_mode, first_of_field_modes, first_of_hardware_modes, first_of_insn_modes,
+    first_of_multi_modes,
 };

@@ -13,10 +13,13 @@ use cg_purity::{first_other_mode, first_outside};
 
 /// What an expression is for, the mode that is wanted of it, and that of its own value.
 #[derive(Clone, Copy)]
-struct Wanted {
-    purpose: Purpose,
-    want: Option<Mode>,
-    own: Option<Mode>,
+pub struct Wanted {
+    /// What the expression is for.
+    pub purpose: Purpose,
+    /// The mode that is wanted of it.
+    pub want: Option<Mode>,
+    /// The mode of its own value.
+    pub own: Option<Mode>,
 }
 
 /// What is said of a fault of modes.
@@ -92,7 +95,7 @@ fn result_fault(wanted: Wanted, mode: Mode) -> Option<MachineFault>
 
 /// The first fault of one expression by its modes.
 #[tactic(auto, using(crate::proofs::Firsts::first_rules))]
-fn by_mode(machine: &Machine, wanted: Wanted, rtl: &Rtl) -> Option<MachineFault>
+pub fn by_mode(machine: &Machine, wanted: Wanted, rtl: &Rtl) -> Option<MachineFault>
     ensures { result ≡ first (judging.mode_faults machine.now (judged wanted rtl.now)) }
 {
     if let Some(fault) = first_other_mode(wanted.own, rtl) {

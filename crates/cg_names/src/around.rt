@@ -9,7 +9,7 @@ use cg_rtl::first_symbol;
 
 /// The locals around an expression.
 #[derive(Clone, Copy)]
-pub(crate) enum Around<'a> {
+pub enum Around<'a> {
     /// There are none.
     Outside,
     /// Those around a `sequence`, and then its own, each as `(MODE NAME)`.
@@ -24,7 +24,7 @@ pub fn elements_or_none(form: &Form) -> &[Form]
 }
 
 /// The symbol that stands first, and no bytes where there is none.
-pub(crate) fn name_first(forms: &[Form]) -> &[u8]
+pub fn name_first(forms: &[Form]) -> &[u8]
     ensures { result.now ≡ name_first forms.now }
 {
     match first_symbol(forms) {
@@ -83,7 +83,7 @@ fn count(around: &Around) -> Result<u64, NoMemory>
 
 /// The number of the innermost local of a name.
 #[tactic(auto, using(crate::proofs::Places::around_rules))]
-pub(crate) fn number_of(around: &Around, name: &[u8]) -> Result<Option<u64>, NoMemory>
+pub fn number_of(around: &Around, name: &[u8]) -> Result<Option<u64>, NoMemory>
     ensures { IfOk result (λ n. n ≡ last_place name.now (names_of around.now)) }
 {
     match around {

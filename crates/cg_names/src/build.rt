@@ -51,7 +51,7 @@ fn or_nothing(alloc: Global, found: Option<Rtl>) -> Rtl
 }
 
 /// The number that stands first.
-fn number_first(forms: &[Form]) -> i64
+pub fn number_first(forms: &[Form]) -> i64
     ensures { result ≡ spec.number_first forms.now }
 {
     match forms.first() {

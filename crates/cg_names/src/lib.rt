@@ -11,10 +11,13 @@ mod resolver;
 mod scope;
 mod words;
 
-pub use around::{behind_first, elements_or_none, local_name};
-pub use build::{elements_first, first_alone};
+pub use around::{Around, behind_first, elements_or_none, local_name, name_first, number_of};
+pub use build::{elements_first, first_alone, number_first};
 pub use function::{Function, function_of};
-pub use names::nothing;
+pub use names::{
+    bare_field, constant_named, constant_value, field_named, leaf, named_by_rule, nothing,
+    number_named, operand_index,
+};
 pub use resolver::{built, resolve};
 pub use scope::{EnumValue, Rule, Scope};
-pub use words::{address_mode, mode_named};
+pub use words::{address_mode, mode_first, mode_named};

@@ -10,7 +10,7 @@ use cg_model::{Op, Rtl};
 use std::alloc::Global;
 
 /// An expression without items.
-pub(crate) fn leaf(alloc: Global, op: Op, mode: Option<Mode>, number: i64) -> Rtl
+pub fn leaf(alloc: Global, op: Op, mode: Option<Mode>, number: i64) -> Rtl
     ensures { result ≡ spec.leaf op mode number }
 {
     Rtl {
@@ -43,7 +43,7 @@ fn place_of(name: &[u8], names: &[Text]) -> Option<i64>
 
 /// The number of a name.
 #[tactic(auto, using(crate::proofs::Places::number_is))]
-pub(crate) fn number_named(name: &[u8], names: &List<Text>) -> Option<i64>
+pub fn number_named(name: &[u8], names: &List<Text>) -> Option<i64>
     ensures { result ≡ spec.number_named name.now names.now }
 {
     place_of(name, names.as_slice())
@@ -60,7 +60,7 @@ fn numbered(alloc: Global, op: Op, mode: Option<Mode>, number: Option<i64>) -> O
 }
 
 /// The value of the first constant of a name.
-fn constant_value(name: &[u8], enums: &[EnumValue]) -> Option<i64>
+pub fn constant_value(name: &[u8], enums: &[EnumValue]) -> Option<i64>
     ensures { result ≡ spec.enum_value name.now enums.now }
 {
     for each in enums {
@@ -72,7 +72,7 @@ fn constant_value(name: &[u8], enums: &[EnumValue]) -> Option<i64>
 }
 
 /// What a constant stands for.
-pub(crate) fn constant_named(alloc: Global, scope: &Scope, name: &[u8]) -> Option<Rtl>
+pub fn constant_named(alloc: Global, scope: &Scope, name: &[u8]) -> Option<Rtl>
     ensures { result ≡ spec.constant_named scope.now name.now }
 {
     numbered(
@@ -115,7 +115,7 @@ fn rule_name(alloc: Global, rule: &Rule, own: Option<Mode>, name: &[u8]) -> Opti
 }
 
 /// What the pc or a name of a rule stands for.
-fn named_by_rule(alloc: Global, scope: &Scope, name: &[u8]) -> Option<Rtl>
+pub fn named_by_rule(alloc: Global, scope: &Scope, name: &[u8]) -> Option<Rtl>
     ensures { result ≡ spec.named_by_rule scope.now name.now }
 {
     if name == b"pc".as_slice() {
@@ -136,12 +136,7 @@ fn is_own(rule: &Rule, name: &[u8]) -> bool
 }
 
 /// What a field or a multi field stands for.
-pub(crate) fn field_named(
-    alloc: Global,
-    scope: &Scope,
-    mode: Option<Mode>,
-    name: &[u8],
-) -> Option<Rtl>
+pub fn field_named(alloc: Global, scope: &Scope, mode: Option<Mode>, name: &[u8]) -> Option<Rtl>
     ensures { result ≡ spec.field_named scope.now mode name.now }
 {
     if is_own(&scope.rule, name) {
@@ -164,7 +159,7 @@ fn is_pure(rule: &Rule) -> bool
 }
 
 /// What a bare field of a pure expression stands for.
-fn bare_field(alloc: Global, scope: &Scope, name: &[u8]) -> Option<Rtl>
+pub fn bare_field(alloc: Global, scope: &Scope, name: &[u8]) -> Option<Rtl>
     ensures { result ≡ spec.bare_field scope.now name.now }
 {
     if is_pure(&scope.rule) {
@@ -199,12 +194,7 @@ pub(crate) fn named_beyond(alloc: Global, scope: &Scope, name: &[u8]) -> Option<
 }
 
 /// What `index-of` an operand stands for.
-pub(crate) fn operand_index(
-    alloc: Global,
-    scope: &Scope,
-    mode: Option<Mode>,
-    name: &[u8],
-) -> Option<Rtl>
+pub fn operand_index(alloc: Global, scope: &Scope, mode: Option<Mode>, name: &[u8]) -> Option<Rtl>
     ensures { result ≡ spec.operand_index scope.now mode name.now }
 {
     numbered(

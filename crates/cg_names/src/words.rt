@@ -122,7 +122,7 @@ pub fn mode_named(bits: u8, word: &[u8]) -> Option<Mode>
 }
 
 /// The mode that is written first.
-pub(crate) fn mode_first(bits: u8, forms: &[Form]) -> Option<Mode>
+pub fn mode_first(bits: u8, forms: &[Form]) -> Option<Mode>
     ensures { result ≡ mode_first bits forms.now }
 {
     match first_symbol(forms) {

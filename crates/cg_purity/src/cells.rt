@@ -47,8 +47,9 @@ fn no_cell(machine: &Machine, rtl: &Rtl) -> Option<MachineFault>
 
 /// The rule that `reg` and `raw-reg` are of a register or of the pc.
 #[derive(Drop)]
-struct Cells<'a> {
-    machine: &'a Machine,
+pub struct Cells<'a> {
+    /// The machine.
+    pub machine: &'a Machine,
 }
 
 impl NodeRule for Cells<'_> {

@@ -9,9 +9,9 @@ mod purity;
 mod unnamed;
 mod walk;
 
-pub use cells::{first_no_cell, first_no_register};
-pub use names::{Standing, first_stray};
+pub use cells::{Cells, first_no_cell, first_no_register};
+pub use names::{Names, Standing, first_stray};
 pub use own::{first_other_mode, first_outside};
-pub use purity::first_impure;
+pub use purity::{Purity, first_impure, names_many};
 pub use unnamed::first_unnamed;
 pub use walk::{NodeRule, first_in};

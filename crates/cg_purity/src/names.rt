@@ -229,9 +229,11 @@ fn stray_operand(machine: &Machine, standing: Standing, rtl: &Rtl) -> Option<Mac
 
 /// The rule that an expression names what may be named where it stands.
 #[derive(Drop)]
-struct Names<'a> {
-    machine: &'a Machine,
-    standing: Standing<'a>,
+pub struct Names<'a> {
+    /// The machine.
+    pub machine: &'a Machine,
+    /// Where the expression stands.
+    pub standing: Standing<'a>,
 }
 
 impl NodeRule for Names<'_> {

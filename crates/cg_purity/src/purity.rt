@@ -124,10 +124,13 @@ fn names_ruled(machine: &Machine, rtl: &Rtl) -> bool
 
 /// The rule that an expression is pure, and names what it may.
 #[derive(Drop)]
-struct Purity<'a> {
-    machine: &'a Machine,
-    purpose: Purpose,
-    subs: &'a [u16],
+pub struct Purity<'a> {
+    /// The machine.
+    pub machine: &'a Machine,
+    /// What the expression is for.
+    pub purpose: Purpose,
+    /// The fields of the multi field, where it is for `extract`.
+    pub subs: &'a [u16],
 }
 
 /// Whether the outermost node of an expression names what may not be named.
@@ -204,7 +207,7 @@ fn bits_named(machine: &Machine, rtl: &Rtl) -> u128
 
 /// Whether an assertion names over 8 bits.
 #[tactic(auto, unfolding(cg_model::specs::faults::E315::names_many))]
-fn names_many(machine: &Machine, purpose: Purpose, rtl: &Rtl) -> bool
+pub fn names_many(machine: &Machine, purpose: Purpose, rtl: &Rtl) -> bool
     ensures { result ≡ spec.names_many machine.now purpose rtl.now }
 {
     match purpose {

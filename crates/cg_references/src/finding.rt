@@ -175,7 +175,7 @@ fn is_hidden(place: Place, name: &[u8]) -> bool
 }
 
 /// Whether something has this name.
-fn is_defined(names: &Names, name: &Text) -> bool
+pub fn is_defined(names: &Names, name: &Text) -> bool
     ensures { result ≡ is_defined (known names.now) name.now }
 {
     is_named(names.first(Namespace::Operands, name))

@@ -14,14 +14,14 @@ use cg_element::{Element, Namespace};
 use cg_known::Names;
 
 /// Whether the name stands for something of another kind than its place takes.
-fn is_of_another_kind(names: &Names, reference: &Reference) -> bool
+pub fn is_of_another_kind(names: &Names, reference: &Reference) -> bool
     ensures { result ≡ is_of_another_kind (known names.now) reference.now }
 {
     found(names, reference.place, &reference.name) == Finding::OfAnotherKind
 }
 
 /// Whether the name stands for nothing.
-fn is_undefined(names: &Names, elements: &[Element], reference: &Reference) -> bool
+pub fn is_undefined(names: &Names, elements: &[Element], reference: &Reference) -> bool
     ensures { result ≡ is_undefined (known names.now) elements.now reference.now }
 {
     match reference.place {

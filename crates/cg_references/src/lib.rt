@@ -11,7 +11,7 @@ mod references;
 mod units;
 
 pub use clauses::clauses_of;
-pub use finding::{Finding, found};
-pub use judge::{first_of_another_kind, first_undefined};
+pub use finding::{Finding, found, is_defined};
+pub use judge::{first_of_another_kind, first_undefined, is_of_another_kind, is_undefined};
 pub use reference::{Place, Reference};
-pub use references::{parts_in, references_of};
+pub use references::{parts_in, put_names, put_part, put_slots, references_of};

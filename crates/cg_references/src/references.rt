@@ -80,7 +80,7 @@ fn put_indices(list: &mut List<Reference>, forms: &[Form]) -> Result<(), NoMemor
 }
 
 /// Puts the slots of a syntax at the end.
-fn put_slots(
+pub fn put_slots(
     list: &mut List<Reference>,
     place: Place,
     pieces: &[NamedPiece],
@@ -135,7 +135,7 @@ fn put_constant(list: &mut List<Reference>, forms: &[Form]) -> Result<(), NoMemo
 }
 
 /// Puts the name in a part at the end.
-fn put_part(list: &mut List<Reference>, place: Place, form: &Form) -> Result<(), NoMemory>
+pub fn put_part(list: &mut List<Reference>, place: Place, form: &Form) -> Result<(), NoMemory>
     ensures { OnOk result (list.new ≡ list.old ++ part place form.now) }
 {
     match form {
@@ -380,7 +380,7 @@ fn put_by_kind(
 }
 
 /// Puts the names in a clause at the end.
-fn put_names(
+pub fn put_names(
     alloc: Global,
     list: &mut List<Reference>,
     selected: bool,
