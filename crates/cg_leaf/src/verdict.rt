@@ -1,4 +1,4 @@
-ghost use Rattle.std.specs.Prelude.{◌≡◌, ℕ, if◌then◌else◌, ◌==◌, ◌/◌};
+ghost use Rattle.std.specs.Prelude.{◌≡◌, ℕ, if◌then◌else◌, ◌==◌, ◌/◌, Ok};
 ghost use Rattle.cg_model.specs.declared.rtl.Rtl.{out-Rtl};
 ghost use Rattle.cg_model.specs.Checked as checked;
 ghost use Rattle.cg_base.specs.Modes.{bits_of};
@@ -95,6 +95,26 @@ pub fn meets(written: Option<Mode>, lead: Mode, own: Mode) -> Verdict
                 agrees(lead, own)
             }
         }
+    }
+}
+
+/// The mode of a shift is that of what is shifted, whatever its count's is. What is shifted has the first
+/// fault.
+pub fn shifted(value: Verdict, count: Verdict) -> Verdict
+    ensures { result ≡ checked.and_then value (λ mode. checked.and_then count (λ of-count. Ok mode)) }
+{
+    let (mode, _) = (value?, count?);
+    Ok(mode)
+}
+
+/// An `if` without `else` has no value. Its test has the first fault.
+pub fn without_else(test: Verdict, value: Verdict) -> Verdict
+    ensures { result ≡ checked.and_then test (λ of-test. checked.and_then value (λ mode. Ok Mode.Void)) }
+{
+    test?;
+    match value {
+        Ok(_) => Ok(Mode::Void),
+        Err(fault) => Err(fault),
     }
 }
 

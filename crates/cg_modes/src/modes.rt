@@ -5,13 +5,14 @@ ghost use Rattle.cg_model.specs.Checked.{checked, mode_in};
 ghost use Rattle.cg_leaf.specs.Firm.{firm_place};
 ghost use Rattle.cg_leaf.specs.Scope.{locals_of};
 ghost use Rattle.cg_modes.specs.Arms as Arms;
-ghost use Rattle.cg_modes.specs.Carried.{carried, shifted, assigned, either};
+ghost use Rattle.cg_modes.specs.Carried as Carried;
+ghost use Rattle.cg_modes.specs.Carried.{carried, assigned, either};
 
 use cg_base::{Mode, TernaryOp, UnaryOp, bits};
 use cg_leaf::scope::Scope;
 use cg_leaf::verdict::{
     Verdict, address, agrees, any_mode, fault, given, is_loose, meets, memory, narrower, no_shape,
-    part, parts, same_bits, stated, valued, wider, word,
+    part, parts, same_bits, shifted, stated, valued, wider, without_else, word,
 };
 use cg_leaf::{leaf, named};
 use cg_model::{Kind, Machine, ModeFault, Op, Rtl};
@@ -280,14 +281,15 @@ fn binary(rtl: &Rtl, machine: &Machine, scope: &Scope, want: Option<Mode>) -> Ve
 #[cycle(modes)]
 #[tactic(auto, using(crate::proofs::Laws::mode_rules))]
 fn shift(rtl: &Rtl, machine: &Machine, scope: &Scope, want: Option<Mode>) -> Verdict
-    ensures { result ≡ shifted machine.now rtl.now (locals_of scope.now) want }
+    ensures { result ≡ Carried.shifted machine.now rtl.now (locals_of scope.now) want }
 {
     let [x, count] = rtl.items.as_slice() else {
         return Err(no_shape());
     };
-    let mode = alone(x, machine, scope, rtl.mode, want)?;
-    any(count, machine, scope)?;
-    Ok(mode)
+    shifted(
+        alone(x, machine, scope, rtl.mode, want),
+        any(count, machine, scope),
+    )
 }
 
 #[cycle(modes)]
@@ -525,11 +527,7 @@ fn conditional(rtl: &Rtl, machine: &Machine, scope: &Scope, want: Option<Mode>) 
     ensures { result ≡ mode_in machine.now rtl.now (locals_of scope.now) want }
 {
     match rtl.items.as_slice() {
-        [test, x] => {
-            value(test, machine, scope)?;
-            judge(x, machine, scope, None)?;
-            Ok(Mode::Void)
-        }
+        [test, x] => without_else(value(test, machine, scope), judge(x, machine, scope, None)),
         [test, _x, _y] => {
             value(test, machine, scope)?;
             either(rtl, machine, scope, want)
