@@ -1,6 +1,7 @@
 -- An instruction whose anyof operands are replaced by their choices (docs/LANGUAGE.md, "Choices").
-use Rattle.std.specs.Prelude.{ℕ, List, [], ◌∷◌, ◌++◌, map, if◌then◌else◌, Option, Some, None, codes}
+use Rattle.std.specs.Prelude.{ℕ, Bool, false, List, [], ◌∷◌, ◌++◌, map, if◌then◌else◌, Option, Some, None, codes}
 use Rattle.std.specs.List.{filter_map, flat_map}
+use Rattle.std.specs.Option.{option_map}
 use Rattle.cg_base.specs.declared.form.Form.{Form}
 use Rattle.cg_base.specs.Texts.{same_text}
 use Rattle.cg_insn.specs.declared.syntax.NamedPiece.{NamedPiece}
@@ -14,6 +15,7 @@ use Rattle.cg_choices.specs.declared.written.WrittenPiece.{WrittenPiece}
 use Rattle.cg_choices.specs.declared.written.NamedPart.{NamedPart}
 use Rattle.cg_choices.specs.declared.written.NamedPart.TheVariants as part
 use Rattle.cg_choices.specs.declared.written.WrittenPart.{WrittenPart}
+use Rattle.cg_choices.specs.declared.written.WrittenAssertion.{WrittenAssertion}
 use Rattle.cg_choices.specs.Putting.{put}
 
 -- An anyof operand, and the choice that is made for it.
@@ -96,15 +98,27 @@ stand c = record { name = c.operand; getter = c.choice.getter; setter = c.choice
 abbrev pub read_only : Chosen → Stand
 read_only c = record { name = c.operand; getter = c.choice.getter; setter = None }
 
--- The instruction's own assertion, then those of the choices, in the order of the operands in the format.
 abbrev pub own_assertion : List Chosen → Form → Form
 own_assertion cs f = put (map read_only cs) f
 
-abbrev pub assertion_of : Chosen → Option Form
-assertion_of c = c.choice.assertion
+-- Where an operand first stands in a format.
+abbrev pub is_slot_of : List ℕ → NamedPart → Bool
+is_slot_of name (part.Constant field value) = false
+is_slot_of name (part.Slot slot) = same_text slot name
 
-abbrev pub assertions_with : List Chosen → List Form → List Form
-assertions_with cs fs = map (own_assertion cs) fs ++ filter_map assertion_of cs
+abbrev pub spot_of : List ℕ → List WrittenPart → Spot
+spot_of name [] = record { item = 0; inner = 0 }
+spot_of name (p ∷ ps) = if is_slot_of name p.part then p.spot else spot_of name ps
+
+-- The assertions of choices, each where its operand first stands in the format, in the order of the operands there.
+abbrev pub assertion_at : Spot → Form → WrittenAssertion
+assertion_at spot f = record { form = f; spot = spot }
+
+abbrev pub assertion_of : List WrittenPart → Chosen → Option WrittenAssertion
+assertion_of ps c = option_map (assertion_at (spot_of c.operand ps)) c.choice.assertion
+
+abbrev pub assertions_of : List WrittenPart → List Chosen → List WrittenAssertion
+assertions_of ps cs = filter_map (assertion_of ps) cs
 
 -- The instruction's name, and behind a `-` each the names of its choices.
 abbrev pub behind_dash : Chosen → List ℕ
@@ -120,6 +134,18 @@ with_choices cs w = record {
   name = name_with cs w.name;
   pieces = pieces_with cs w.pieces;
   parts = parts_with cs w.parts;
-  assertions = assertions_with cs w.assertions;
+  assertion = option_map (own_assertion cs) w.assertion;
+  choice_assertions = w.choice_assertions ++ assertions_of w.parts cs;
   semantics = put (map stand cs) w.semantics;
 }
+
+-- All assertions of an instruction: its own, then those of its choices.
+abbrev pub form_of : WrittenAssertion → Form
+form_of a = a.form
+
+abbrev pub with_own : Option Form → List Form → List Form
+with_own None fs = fs
+with_own (Some f) fs = f ∷ fs
+
+abbrev pub all_assertions : Written → List Form
+all_assertions w = with_own w.assertion (map form_of w.choice_assertions)

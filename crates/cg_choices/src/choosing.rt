@@ -1,15 +1,16 @@
 //! An instruction whose anyof operands are replaced by choices.
 
 ghost use Rattle.std.specs.Prelude.{◌≡◌, ◌++◌, map, OnOk, IfOk};
-ghost use Rattle.std.specs.Option.{option_copied};
-ghost use Rattle.std.specs.List.{flat_map, filter_map};
+ghost use Rattle.std.specs.Option.{option_copied, option_map};
 ghost use Rattle.cg_choices.specs.Putting as spec;
-ghost use Rattle.cg_choices.specs.Choices.{seen_chosen, choice_for, within_spot, piece_within, part_within, choice_of_piece, choice_of_part, pieces_for, parts_for, parts_with, stand, read_only, own_assertion, assertion_of, assertions_with, behind_dash, name_with, pieces_with, with_choices};
+ghost use Rattle.cg_choices.specs.Choices.{seen_chosen, choice_for, within_spot, piece_within, part_within, choice_of_piece, choice_of_part, pieces_for, parts_for, parts_with, stand, read_only, own_assertion, is_slot_of, spot_of, assertions_of, behind_dash, name_with, pieces_with, with_choices};
 
 use crate::joining::{copy, joined};
 use crate::putting::put;
 use crate::stand::{Stand, owned};
-use crate::written::{Choice, Chosen, NamedPart, Spot, Written, WrittenPart, WrittenPiece};
+use crate::written::{
+    Choice, Chosen, NamedPart, Spot, Written, WrittenAssertion, WrittenPart, WrittenPiece,
+};
 use cg_base::{Form, List, NoMemory, Text};
 use cg_insn::NamedPiece;
 use std::alloc::Global;
@@ -207,44 +208,91 @@ fn all_read_only(alloc: Global, chosen: &[Chosen<'_>]) -> Result<List<Stand>, No
     Ok(list)
 }
 
-/// Assertions, with what is read for operands put in.
-fn own_assertions(
+/// The instruction's own assertion, with what is read for operands put in.
+fn own_assertion(
     alloc: Global,
     chosen: &[Chosen<'_>],
-    assertions: &[Form],
-) -> Result<List<Form>, NoMemory>
-    ensures { IfOk result (λ list. list ≡ map (own_assertion (map seen_chosen chosen.now)) assertions.now) }
+    assertion: Option<&Form>,
+) -> Result<Option<Form>, NoMemory>
+    ensures { IfOk result (λ new. new ≡ option_map (own_assertion (map seen_chosen chosen.now)) (option_copied assertion.entry)) }
 {
-    let stands = all_read_only(alloc, chosen)?;
-    let mut list = List::new(alloc);
-    for assertion in assertions {
-        list.push(put(alloc, stands.as_slice(), assertion)?)?;
+    match assertion {
+        Some(assertion) => {
+            let stands = all_read_only(alloc, chosen)?;
+            Ok(Some(put(alloc, stands.as_slice(), assertion)?))
+        }
+        None => Ok(None),
     }
-    Ok(list)
+}
+
+/// Whether a part is the operand of this name.
+fn is_slot_of(part: &NamedPart, name: &Text) -> bool
+    ensures { result ≡ is_slot_of name.now part.now }
+{
+    match part {
+        NamedPart::Slot(slot) => slot == name,
+        NamedPart::Constant(_, _) => false,
+    }
+}
+
+/// Where an operand first stands in a format.
+fn spot_of(parts: &[WrittenPart], name: &Text) -> Spot
+    ensures { result ≡ spot_of name.now parts.now }
+{
+    for part in parts {
+        if is_slot_of(&part.part, name) {
+            return part.spot;
+        }
+    }
+    Spot { item: 0, inner: 0 }
+}
+
+/// Puts the assertions of an instruction's choices at the end.
+fn put_assertions(
+    list: &mut List<WrittenAssertion>,
+    assertions: &[WrittenAssertion],
+) -> Result<(), NoMemory>
+    ensures { OnOk result (list.new ≡ list.old ++ assertions.now) }
+{
+    for assertion in assertions {
+        list.push(WrittenAssertion {
+            form: assertion.form.clone()?,
+            spot: assertion.spot,
+        })?;
+    }
+    Ok(())
 }
 
 /// Puts the assertions of choices at the end.
-fn put_assertions(list: &mut List<Form>, chosen: &[Chosen<'_>]) -> Result<(), NoMemory>
-    ensures { OnOk result (list.new ≡ list.old ++ filter_map assertion_of (map seen_chosen chosen.now)) }
+fn put_chosen(
+    list: &mut List<WrittenAssertion>,
+    parts: &[WrittenPart],
+    chosen: &[Chosen<'_>],
+) -> Result<(), NoMemory>
+    ensures { OnOk result (list.new ≡ list.old ++ assertions_of parts.now (map seen_chosen chosen.now)) }
 {
     for each in chosen {
         if let Some(assertion) = &each.choice.assertion {
-            list.push(assertion.clone()?)?;
+            list.push(WrittenAssertion {
+                form: assertion.clone()?,
+                spot: spot_of(parts, each.operand),
+            })?;
         }
     }
     Ok(())
 }
 
-/// The instruction's own assertions, then those of choices.
+/// The assertions of choices, behind those that the instruction has already.
 fn assertions_with(
     alloc: Global,
     chosen: &[Chosen<'_>],
-    assertions: &[Form],
-) -> Result<List<Form>, NoMemory>
-    ensures { IfOk result (λ list. list ≡ assertions_with (map seen_chosen chosen.now) assertions.now) }
+    instruction: &Written,
+) -> Result<List<WrittenAssertion>, NoMemory>
+    ensures { IfOk result (λ list. list ≡ instruction.now.choice_assertions ++ assertions_of instruction.now.parts (map seen_chosen chosen.now)) }
 {
-    let mut list = own_assertions(alloc, chosen, assertions)?;
-    put_assertions(&mut list, chosen)?;
+    let mut list = List::new(alloc);
+    put_assertions(&mut list, instruction.choice_assertions.as_slice())?;
+    put_chosen(&mut list, instruction.parts.as_slice(), chosen)?;
     Ok(list)
 }
 
@@ -271,7 +319,8 @@ pub fn with_choices(
         name: name_with(&instruction.name, chosen)?,
         pieces: pieces_with(alloc, chosen, instruction.pieces.as_slice())?,
         parts: parts_with(alloc, chosen, instruction.parts.as_slice())?,
-        assertions: assertions_with(alloc, chosen, instruction.assertions.as_slice())?,
+        assertion: own_assertion(alloc, chosen, instruction.assertion.as_ref())?,
+        choice_assertions: assertions_with(alloc, chosen, instruction)?,
         semantics: semantics_with(alloc, chosen, &instruction.semantics)?,
     })
 }

@@ -13,4 +13,6 @@ pub use choosing::with_choices;
 pub use putting::put;
 pub use stand::Stand;
 pub use ways::each_choice;
-pub use written::{Anyof, Choice, Chosen, NamedPart, Spot, Written, WrittenPart, WrittenPiece};
+pub use written::{
+    Anyof, Choice, Chosen, NamedPart, Spot, Written, WrittenAssertion, WrittenPart, WrittenPiece,
+};

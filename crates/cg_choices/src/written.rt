@@ -41,6 +41,15 @@ pub struct WrittenPart {
     pub spot: Spot,
 }
 
+/// An assertion that a choice puts in, with its spot.
+#[derive(Debug, Drop)]
+pub struct WrittenAssertion {
+    /// One expression.
+    pub form: Form,
+    /// Where the choice's operand first stands in the format.
+    pub spot: Spot,
+}
+
 /// An instruction as it is written: with the names of fields and operands, and not their numbers.
 #[derive(Debug, Drop)]
 pub struct Written {
@@ -52,8 +61,11 @@ pub struct Written {
     pub pieces: List<WrittenPiece>,
     /// The parts of its format.
     pub parts: List<WrittenPart>,
-    /// Its assertions: its own and those of its choices, all of which have to hold.
-    pub assertions: List<Form>,
+    /// Its own assertion, if it has one: one expression.
+    pub assertion: Option<Form>,
+    /// The assertions of its choices, in the order of the operands in the format. All assertions have to
+    /// hold.
+    pub choice_assertions: List<WrittenAssertion>,
     /// What it does: one expression.
     pub semantics: Form,
 }

@@ -1,8 +1,6 @@
-use Rattle.std.proofs.Common.{◌≡◌, ◌++◌, drop, map}
-use Rattle.std.specs.List.{filter_map}
-use Rattle.cg_choices.specs.Choices.{seen_chosen, assertion_of}
+use Rattle.std.proofs.Common.{◌≡◌, ◌++◌, drop}
 use Rattle.cg_choices.proofs.choosing.put_assertions.Given as goal
 
 -- what stands, with what is left, is the whole
-abbrev pub invariant-loop-each : goal.invariant-loop-each
-invariant-loop-each l = l.list ++ filter_map assertion_of (map seen_chosen (drop l.each-index l.chosen)) ≡ l.initial.list ++ filter_map assertion_of (map seen_chosen l.chosen)
+abbrev pub invariant-loop-assertion : goal.invariant-loop-assertion
+invariant-loop-assertion l = l.list ++ drop l.assertion-index l.assertions ≡ l.initial.list ++ l.assertions
