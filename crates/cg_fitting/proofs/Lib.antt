@@ -1,0 +1,4 @@
+pub mod Slots
+pub mod Values
+pub mod Misfits
+pub mod Fits
