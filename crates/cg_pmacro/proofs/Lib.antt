@@ -1,4 +1,2 @@
-pub mod Rules
 pub mod TopRules
-pub mod ExpandRules
 pub mod LawLemmas

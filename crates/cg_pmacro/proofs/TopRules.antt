@@ -17,7 +17,7 @@ use Rattle.cg_pmacro.specs.Splitting.{split_by, split_each, split_to}
 use Rattle.cg_pmacro.specs.Steps.{further_top, further_split, Refuses}
 use Rattle.cg_pmacro.specs.Tops.{State, in_place, no_forms, top_by, top_to}
 use Rattle.cg_builtin.proofs.Fronts.{none_in_front, more_in_front, answer_none_in_front, answer_more_in_front}
-use Rattle.cg_pmacro.proofs.Rules.{halts_of}
+use Rattle.cg_expander.proofs.Rules.{halts_of}
 
 pub top_out : (k : ℕ) (b : Body) (s : State) → top_to k b s ≡ top_by (further_top k) b s
 top_out zero b s = refl

@@ -7,7 +7,7 @@ use Rattle.cg_builtin.specs.declared.body.Macro.{Macro}
 use Rattle.cg_builtin.specs.Outcome.{each, choose}
 use Rattle.cg_builtin.specs.Sizes.{nodes}
 use Rattle.cg_builtin.specs.Shapes.{macro_named, begins_with_dot}
-use Rattle.cg_pmacro.specs.Expansion.{Expander, call_written, with_arguments, without_arguments}
+use Rattle.cg_expander.specs.Expansion.{Expander, call_written, with_arguments, without_arguments}
 use Rattle.cg_pmacro.specs.Splitting.{first_name}
 
 -- The arguments left some units for the body, and the body left what the call left, one more, and the nodes of its result.

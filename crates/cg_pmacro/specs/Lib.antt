@@ -1,6 +1,4 @@
--- To be read in this order, behind those of `cg_builtin`. Behind the laws stands what private functions say.
-pub mod Replacing
-pub mod Expansion
+-- To be read in this order, behind those of `cg_expander`. Behind the laws stands what private functions say.
 pub mod Splitting
 pub mod Definitions
 pub mod Tops

@@ -11,7 +11,7 @@ use Rattle.cg_base.specs.Refusing.{Fault, refusal_at}
 use Rattle.cg_builtin.specs.Outcome.{Answer, Run, onward, pure, fails, each_joined, choose}
 use Rattle.cg_builtin.specs.Sizes.{levels}
 use Rattle.cg_builtin.specs.Shapes.{plain, head_name, elements}
-use Rattle.cg_pmacro.specs.Expansion.{expanded}
+use Rattle.cg_expander.specs.Expansion.{expanded}
 use Rattle.cg_pmacro.specs.Splitting.{split}
 use Rattle.cg_pmacro.specs.Definitions.{definition}
 

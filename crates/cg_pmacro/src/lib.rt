@@ -1,10 +1,7 @@
 //! Expansion of macros: what the top forms of a description stand for.
 #![tactic(auto)]
 
-mod charging;
-mod expander;
 mod laws;
-mod replacing;
 mod tops;
 
 pub use laws::{call_leaves, quoted_leaf_is_free, same_form_is_equality, unchanged_at_rest};

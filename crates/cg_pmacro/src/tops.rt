@@ -10,12 +10,12 @@ ghost use Rattle.cg_builtin.specs.Shapes.{plain as plain_of};
 ghost use Rattle.cg_pmacro.specs.ShortForms as short;
 ghost use Rattle.cg_pmacro.specs.Tops as meant;
 
-use crate::expander::expand as expand_form;
 use cg_base::{Fault, Form, Forms, List, NoMemory, Stop, Text, Top, stop_at};
 use cg_builtin::{
     Body, Halt, Macro, Value, begins_with_dot, copy, elements, faulty, form_depth, form_elements,
     form_symbol, head_name, is_list, is_named, levels, macro_named, names_of, own_symbol, plain,
 };
+use cg_expander::expand as expand_form;
 use std::alloc::Global;
 
 /// What `(include "simplify.inc")` reads: the short forms of definitions
