@@ -3,15 +3,15 @@ use Rattle.std.specs.Prelude.{ℕ, ◌+◌, ℤ, Bool, true, false, not, ◌&&�
 use Rattle.std.specs.Option.{option_or, unwrap_or}
 use Rattle.cg_base.specs.declared.form.Form.{Form, out-Form}
 use Rattle.cg_base.specs.declared.form.Form.TheOpen.{Symbol, Items}
-use Rattle.cg_base.specs.Parts.{◌>>=◌, Layer, headed_in, symbol_of, number_of, elements_of}
+use Rattle.cg_base.specs.Parts.{Layer, headed_in, symbol_of, number_of, elements_of}
 use Rattle.cg_element.specs.declared.element.Element.{Element}
-use Rattle.cg_element.specs.declared.kind.Namespace.TheVariants.{Fields, Operands, Constants}
+use Rattle.cg_element.specs.declared.kind.Namespace.TheVariants.{Operands, Constants}
 use Rattle.cg_references.specs.declared.finding.Finding.{Finding}
 use Rattle.cg_references.specs.declared.finding.Finding.TheVariants.{Fitting}
 use Rattle.cg_references.specs.declared.reference.Place.{Place}
 use Rattle.cg_references.specs.declared.reference.Place.TheVariants as place
 use Rattle.cg_known.specs.Table.{Table}
-use Rattle.cg_references.specs.Finding.{found, stands_as, is_plain_field, is_field_constant}
+use Rattle.cg_references.specs.Finding.{found, stands_as, is_field_constant}
 use Rattle.cg_references.specs.References.{parts_in, listed}
 use Rattle.cg_choices.specs.declared.written.NamedPart.{NamedPart}
 use Rattle.cg_choices.specs.declared.written.NamedPart.TheVariants.{Constant, Slot}

@@ -1,6 +1,6 @@
 -- An instruction as its form says it, with its anyof operands. A part that isn't defined is left out.
-use Rattle.std.specs.Prelude.{ℕ, ◌+◌, List, [], ◌∷◌, Option, Some, None}
-use Rattle.std.specs.Option.{unwrap_or}
+use Rattle.std.specs.Prelude.{ℕ, ◌+◌, List, [], ◌∷◌, Option}
+use Rattle.std.specs.Option.{option_map, unwrap_or}
 use Rattle.cg_base.specs.declared.form.Form.{Form}
 use Rattle.cg_base.specs.Parts.{◌>>=◌, elements_of, only}
 use Rattle.cg_insn.specs.declared.form.InstructionForm.{InstructionForm}
@@ -20,10 +20,6 @@ only_in f = elements_of f >>= only
 abbrev pub expression_in : Form → Form
 expression_in f = unwrap_or (only_in f) f
 
-abbrev pub expressions_in : Option Form → List Form
-expressions_in None = []
-expressions_in (Some f) = expression_in f ∷ []
-
 -- The pieces of a syntax, each with its place there.
 abbrev pub pieces_from : ℕ → List NamedPiece → List WrittenPiece
 pieces_from item [] = []
@@ -39,6 +35,7 @@ written_of at es form i = record {
   name = i.name;
   pieces = all_pieces i.syntax;
   parts = parts_of at es place.Part i.format;
-  assertions = expressions_in i.ifield_assertion;
+  assertion = option_map expression_in i.ifield_assertion;
+  choice_assertions = [];
   semantics = expression_in i.semantics;
 }

@@ -1,17 +1,15 @@
 //! The anyof operands of a format, and the choices that each has.
 
 ghost use Rattle.std.specs.Prelude.{◌≡◌, [], ◌++◌, map, IfOk, OnOk};
-ghost use Rattle.std.specs.Option.{option_copied, option_map};
 ghost use Rattle.std.specs.List.{filter_map};
 ghost use Rattle.cg_base.specs.Texts.{is_among};
 ghost use Rattle.cg_known.specs.Table.{known};
 ghost use Rattle.cg_expanded.specs.Named.{anyof_named};
-ghost use Rattle.cg_expanded.specs.Written.{expression_in};
 ghost use Rattle.cg_expanded.specs.Choices.{derived_choice, own_pieces, own_parts, plain_choice, choice_of, known_choice, anyof_of, slot_name, distinct, anyofs_of};
 
 use crate::named::{anyof_named, derived_named};
 use crate::parts::{is_taken, own_spot, parts_of};
-use crate::written::{all_pieces, expression_in};
+use crate::written::{all_pieces, expression_in, own_expression};
 use cg_base::{Form, List, NoMemory, Text};
 use cg_choices::{Anyof, Choice, NamedPart, WrittenPart, WrittenPiece};
 use cg_element::Element;
@@ -20,16 +18,6 @@ use cg_known::Names;
 use cg_operand::{AnyofOperandForm, DerivedOperandForm};
 use cg_references::Place;
 use std::alloc::Global;
-
-/// The expression of a clause that may be absent.
-fn own_expression(clause: Option<&Form>) -> Result<Option<Form>, NoMemory>
-    ensures { IfOk result (λ form. form ≡ option_map expression_in (option_copied clause.entry)) }
-{
-    match clause {
-        Some(clause) => Ok(Some(expression_in(clause).clone()?)),
-        None => Ok(None),
-    }
-}
 
 /// What a derived operand puts in place.
 #[tactic(auto, unfolding(crate::specs::Choices::derived_choice))]
@@ -184,8 +172,10 @@ fn anyofs_among(
     Ok(list)
 }
 
-/// The anyof operands of a format, in its order, each once and with its choices.
-pub(crate) fn anyofs_of(
+/// The anyof operands of a format, in its order, each once and with its choices. A choice that isn't
+/// defined, or is no plain or derived operand, is left out (docs/LANGUAGE.md, "Choices"). NoMemory where
+/// memory runs out.
+pub fn anyofs_of(
     alloc: Global,
     names: &Names,
     elements: &[Element],

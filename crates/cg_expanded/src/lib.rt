@@ -8,4 +8,7 @@ mod named;
 mod parts;
 mod written;
 
+pub use choices::anyofs_of;
 pub use instructions::{expanded, form_over};
+pub use parts::{own_spot, parts_of};
+pub use written::{all_pieces, expression_in, only_in};

@@ -131,8 +131,8 @@ fn part_of(
     }
 }
 
-/// The place of a clause's own item.
-pub(crate) fn own_spot(item: usize) -> Spot
+/// The place of an item of an instruction's own clause, counted from 0 (docs/LANGUAGE.md, "Choices").
+pub fn own_spot(item: usize) -> Spot
     ensures { result ≡ own_spot item }
 {
     Spot { item, inner: 0 }
@@ -186,7 +186,7 @@ fn elements_or_none(form: &Form) -> &[Form]
 /// The parts of a format or an encoding, by what stands behind the clause's name, each with its place
 /// there. What isn't defined, or can't stand in the place, is left out (docs/LANGUAGE.md,
 /// "Instructions").
-pub(crate) fn parts_of(
+pub fn parts_of(
     alloc: Global,
     names: &Names,
     elements: &[Element],

@@ -1,10 +1,10 @@
 //! An instruction as its form says it.
 
 ghost use Rattle.std.specs.Prelude.{◌≡◌, [], IfOk};
-ghost use Rattle.std.specs.Option.{option_copied, unwrap_or};
+ghost use Rattle.std.specs.Option.{option_copied, option_map, unwrap_or};
 ghost use Rattle.cg_insn.specs.Syntax.{pieces_of};
 ghost use Rattle.cg_known.specs.Table.{known};
-ghost use Rattle.cg_expanded.specs.Written.{only_in, expression_in, expressions_in, pieces_from, all_pieces, written_of};
+ghost use Rattle.cg_expanded.specs.Written.{only_in, expression_in, pieces_from, all_pieces, written_of};
 
 use crate::parts::{own_spot, parts_of};
 use cg_base::{Form, List, NoMemory, Stop, Text, only};
@@ -15,16 +15,18 @@ use cg_known::Names;
 use cg_references::Place;
 use std::alloc::Global;
 
-/// The one form that stands behind a clause's name.
+/// The one form that stands behind a clause's name. None where the clause is no list, or has none or more
+/// behind its name (docs/LANGUAGE.md, "Forms and clauses").
 #[tactic(auto, unfolding(crate::specs::Written::only_in))]
-fn only_in(clause: &Form) -> Option<&Form>
+pub fn only_in(clause: &Form) -> Option<&Form>
     ensures { option_copied result ≡ only_in clause.now }
 {
     only(clause.elements()?)
 }
 
-/// The expression that stands behind a clause's name.
-pub(crate) fn expression_in(clause: &Form) -> &Form
+/// The expression that stands behind a clause's name, or the clause as it is where not one form stands
+/// there (docs/LANGUAGE.md, "RTL").
+pub fn expression_in(clause: &Form) -> &Form
     ensures { result.now ≡ expression_in clause.now }
 {
     match only_in(clause) {
@@ -33,15 +35,14 @@ pub(crate) fn expression_in(clause: &Form) -> &Form
     }
 }
 
-/// The expression of a clause that may be absent, if it stands.
-fn expressions_in(alloc: Global, clause: Option<&Form>) -> Result<List<Form>, NoMemory>
-    ensures { IfOk result (λ list. list ≡ expressions_in (option_copied clause.entry)) }
+/// The expression of a clause that may be absent.
+pub(crate) fn own_expression(clause: Option<&Form>) -> Result<Option<Form>, NoMemory>
+    ensures { IfOk result (λ form. form ≡ option_map expression_in (option_copied clause.entry)) }
 {
-    let mut list = List::new(alloc);
-    if let Some(clause) = clause {
-        list.push(expression_in(clause).clone()?)?;
+    match clause {
+        Some(clause) => Ok(Some(expression_in(clause).clone()?)),
+        None => Ok(None),
     }
-    Ok(list)
 }
 
 /// The pieces of a syntax, none of what is no syntax.
@@ -69,8 +70,9 @@ fn placed(alloc: Global, pieces: &[NamedPiece]) -> Result<List<WrittenPiece>, No
     Ok(list)
 }
 
-/// The pieces of a syntax, each with its place there.
-pub(crate) fn all_pieces(alloc: Global, text: &Text) -> Result<List<WrittenPiece>, NoMemory>
+/// The pieces of a syntax, each with its place there, and none of a text that is no syntax
+/// (docs/LANGUAGE.md, "Instructions"). NoMemory where memory runs out.
+pub fn all_pieces(alloc: Global, text: &Text) -> Result<List<WrittenPiece>, NoMemory>
     ensures { IfOk result (λ list. list ≡ all_pieces text.now) }
 {
     let pieces = pieces_or_none(alloc, text)?;
@@ -93,7 +95,8 @@ pub(crate) fn written_of(
         name: instruction.name.clone()?,
         pieces: all_pieces(alloc, &instruction.syntax)?,
         parts: parts_of(alloc, names, elements, Place::Part, &instruction.format)?,
-        assertions: expressions_in(alloc, instruction.ifield_assertion.as_ref())?,
+        assertion: own_expression(instruction.ifield_assertion.as_ref())?,
+        choice_assertions: List::new(alloc),
         semantics: expression_in(&instruction.semantics).clone()?,
     })
 }

@@ -71,6 +71,18 @@ fn put_shape(alloc: Global, written: &Written, printed: &mut Text) -> Result<(),
     printed.append(b" ;")
 }
 
+/// Puts the assertions of an instruction at the end: its own, then those of its choices with their spots.
+fn put_assertions(alloc: Global, written: &Written, printed: &mut Text) -> Result<(), NoMemory> {
+    if let Some(assertion) = &written.assertion {
+        put_form(alloc, assertion, printed)?;
+    }
+    for assertion in written.choice_assertions.as_slice() {
+        put_form(alloc, &assertion.form, printed)?;
+        put_spot(alloc, assertion.spot, printed)?;
+    }
+    printed.append(b" ;")
+}
+
 /// Puts an instruction on a line at the end: the number of its form, its name, its pieces, its parts, its
 /// assertions and its semantics.
 pub fn put_written(alloc: Global, written: &Written, printed: &mut Text) -> Result<(), NoMemory> {
@@ -79,10 +91,7 @@ pub fn put_written(alloc: Global, written: &Written, printed: &mut Text) -> Resu
     printed.append(b" ")?;
     printed.append(written.name.as_slice())?;
     put_shape(alloc, written, printed)?;
-    for assertion in written.assertions.as_slice() {
-        put_form(alloc, assertion, printed)?;
-    }
-    printed.append(b" ;")?;
+    put_assertions(alloc, written, printed)?;
     put_form(alloc, &written.semantics, printed)?;
     printed.append(b"\n")
 }
