@@ -1,0 +1,12 @@
+pub mod Beyond
+pub mod Tables
+pub mod Shapes
+pub mod Trying
+pub mod Masks
+pub mod Tightness
+pub mod Parting
+pub mod Reaching
+pub mod Decoding
+pub mod Alone
+pub mod Finds
+pub mod Whole

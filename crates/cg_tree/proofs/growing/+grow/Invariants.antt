@@ -1,0 +1,4 @@
+use Rattle.cg_tree.proofs.growing.+grow.Given as goal
+
+abbrev pub decreases-grow : goal.decreases-grow
+decreases-grow l = l.room
