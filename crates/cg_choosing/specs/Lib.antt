@@ -1,0 +1,4 @@
+pub mod Fronts
+pub mod Indexing
+pub mod Ordering
+pub mod Trying
