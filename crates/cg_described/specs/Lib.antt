@@ -1,0 +1,5 @@
+pub mod Once
+pub mod Bare
+pub mod Texts
+pub mod Described
+pub mod Seen

@@ -1,0 +1,13 @@
+//! What a description says of a machine before its expressions are read: the instructions as they are
+//! written, and all that their names stand for (docs/LANGUAGE.md, "Machines").
+#![tactic(auto)]
+
+mod bare;
+mod described;
+mod once;
+mod texts;
+
+pub use bare::{all_bare, bare_names, bare_operand};
+pub use described::{Described, append, describe, scope_of};
+pub use once::distinct;
+pub use texts::{error_texts, texts_at};
