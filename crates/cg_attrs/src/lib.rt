@@ -27,3 +27,4 @@ pub use lookup::{
     wanted_word,
 };
 pub use read::read_frame;
+pub use table::Kind;

@@ -11,5 +11,5 @@ mod selected;
 pub use belonging::{belongs_to_isa, belongs_to_machine};
 pub use element::Element;
 pub use kind::{Kind, Namespace};
-pub use reading::{element_of, elements};
+pub use reading::{Reader, element_of, elements};
 pub use selected::{isas_of, selected_arch, selected_isa, selected_mach};

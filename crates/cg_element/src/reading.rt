@@ -17,7 +17,7 @@ use std::alloc::Global;
 
 /// What reads a form.
 #[derive(Clone, Copy)]
-pub(crate) enum Reader {
+pub enum Reader {
     /// `read_frame`.
     Frames,
     /// `read_field`.

@@ -98,7 +98,7 @@ fn is_word(named: &NamedValue) -> bool
 }
 
 /// The same of some words.
-fn are_all_words(words: &[NamedValue]) -> bool
+pub fn are_all_words(words: &[NamedValue]) -> bool
     ensures { result ≡ list_all spec.is_word words.now }
 {
     for named in words {
@@ -223,7 +223,7 @@ fn has_bars(bytes: &[u8]) -> bool
 }
 
 /// Whether a piece of a syntax is such as may be.
-fn is_piece(piece: &Piece) -> bool
+pub fn is_piece(piece: &Piece) -> bool
     ensures { result ≡ spec.is_piece piece.now }
 {
     match piece {

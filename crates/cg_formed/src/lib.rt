@@ -6,4 +6,4 @@ mod elements;
 mod place;
 mod standing;
 
-pub use elements::is_formed;
+pub use elements::{are_all_words, is_formed, is_piece};

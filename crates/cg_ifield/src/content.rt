@@ -14,7 +14,7 @@ use cg_rtl::{first_left_out_in, first_wrong_in};
 
 /// What has to stand behind the name of a clause of a field (docs/LANGUAGE.md, "Fields").
 #[derive(Clone, Copy, Debug, PartialEq, Eq)]
-pub(crate) enum FieldContent {
+pub enum FieldContent {
     /// What other forms hold too.
     Shared(Content),
     /// One number.

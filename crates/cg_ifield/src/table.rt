@@ -6,7 +6,7 @@ use cg_attrs::{Content, FormKind, Named, Row, Table, kind_among, named, row};
 
 /// The forms of fields.
 #[derive(Clone, Copy, Debug, PartialEq, Eq)]
-pub(crate) enum FieldKind {
+pub enum FieldKind {
     /// `define-ifield`.
     Plain,
     /// `define-multi-ifield`.

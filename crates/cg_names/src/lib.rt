@@ -19,5 +19,5 @@ pub use names::{
     number_named, operand_index,
 };
 pub use resolver::{built, resolve};
-pub use scope::{EnumValue, Rule, Scope};
-pub use words::{address_mode, mode_first, mode_named};
+pub use scope::{EnumValue, Lack, Rule, Scope};
+pub use words::{Wording, address_mode, mode_first, mode_named};

@@ -55,7 +55,7 @@ pub struct Scope {
 
 /// How a name lacks a meaning.
 #[derive(Clone, Copy)]
-pub(crate) enum Lack {
+pub enum Lack {
     /// Nothing of the wanted kind has the name: E306.
     Undefined,
     /// A bare symbol names nothing at all: E405.

@@ -10,7 +10,7 @@ use cg_rtl::first_symbol;
 
 /// What a word for a mode says.
 #[derive(Clone, Copy)]
-pub(crate) enum Wording {
+pub enum Wording {
     /// This mode.
     Plain(Mode),
     /// The mode of the cpu's word.

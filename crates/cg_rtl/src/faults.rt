@@ -13,7 +13,7 @@ use cg_base::{Form, Text, gives_mode, is_mode};
 
 /// A kind of fault.
 #[derive(Clone, Copy, Debug, PartialEq, Eq)]
-pub(crate) enum Flaw {
+pub enum Flaw {
     /// A shape is wrong: E304.
     Wrong,
     /// Something is left out of the language: E307.

@@ -9,7 +9,7 @@ use cg_base::is_among;
 
 /// What may stand at a place of a function's list.
 #[derive(Clone, Copy, Debug, PartialEq, Eq)]
-pub(crate) enum Item {
+pub enum Item {
     /// An expression.
     Expression,
     /// A number.

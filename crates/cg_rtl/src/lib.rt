@@ -7,4 +7,5 @@ mod faults;
 mod functions;
 
 pub use check::{check_rtl, first_left_out_in, first_wrong_in};
-pub use faults::{behind_mode, first_symbol, is_else};
+pub use faults::{Flaw, behind_mode, first_symbol, is_else};
+pub use functions::Item;
