@@ -1,0 +1,4 @@
+pub mod Telling
+pub mod Faulting
+pub mod Laying
+pub mod Showing
