@@ -1,0 +1,5 @@
+pub mod Rules
+pub mod Instructions
+pub mod Macros
+pub mod Machines
+pub mod Seen
