@@ -55,12 +55,9 @@ cycles_in x = if same_text (codes "cycles") x.0 then only_natural x.1 else None
 unfoldable pub note_cycles : Form → Option ℕ
 note_cycles f = headed f >>= cycles_in
 
-abbrev pub last_behind : Option ℕ → List Form → Option ℕ
-last_behind so_far [] = so_far
-last_behind so_far (f ∷ fs) = last_behind (option_or (note_cycles f) so_far) fs
-
 abbrev pub last_cycles : List Form → Option ℕ
-last_cycles fs = last_behind None fs
+last_cycles [] = None
+last_cycles (f ∷ fs) = option_or (last_cycles fs) (note_cycles f)
 
 -- How long a unit takes that stands in `timing`, by the units of its model.
 abbrev pub unit_cycles : List (List ℕ × ℕ) → List Form → ℕ

@@ -117,6 +117,7 @@ fn note_cycles(note: &Form) -> Option<u64>
 }
 
 /// What the last `(cycles n)` among notes says.
+#[tactic(auto, using(crate::proofs::Last::last_rules))]
 fn last_cycles(notes: &[Form]) -> Option<u64>
     ensures { result ≡ spec.last_cycles notes.now }
 {
