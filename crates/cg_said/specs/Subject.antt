@@ -1,0 +1,32 @@
+-- A form of a description with what it gives, as definitions see it.
+use Rattle.std.specs.Prelude.{ℕ, List, map}
+use Rattle.std.specs.Borrow.{Bor}
+use Rattle.cg_base.specs.declared.form.Form.{Form}
+use Rattle.cg_element.specs.declared.element.Element.{Element}
+use Rattle.cg_model.specs.declared.machine.Machine.{Machine}
+use Rattle.cg_choices.specs.declared.written.Written.{Written}
+use Rattle.cg_described.specs.Described.{Described}
+use Rattle.cg_described.specs.Seen.{seen_described}
+use Rattle.cg_said.specs.declared.subject.Subject.{Subject}
+
+-- Instructions that are lent.
+abbrev pub lent : Bor Written → Written
+lent w = w.now
+
+abbrev pub all_lent : List (Bor Written) → List Written
+all_lent ws = map lent ws
+
+abbrev pub described_in : Subject → Described
+described_in x = seen_described x.described.now
+
+abbrev pub machine_in : Subject → Machine
+machine_in x = x.machine.now
+
+abbrev pub element_in : Subject → Element
+element_in x = x.element.now
+
+abbrev pub form_in : Subject → Form
+form_in x = x.top.now.form
+
+abbrev pub insns_in : Subject → List Written
+insns_in x = all_lent x.insns.now
