@@ -1,0 +1,16 @@
+pub mod Lists
+pub mod Clauses
+pub mod Frames
+pub mod Fields
+pub mod Sizes
+pub mod Elements
+pub mod Readers
+pub mod Rules
+pub mod Bundles
+pub mod Told
+pub mod Types
+pub mod Codes
+pub mod Hardware
+pub mod Insns
+pub mod Operands
+pub mod Forms
