@@ -24,7 +24,7 @@ use Rattle.cg_model.specs.Choosing.{alone}
 use Rattle.cg_model.specs.Imaging.{reading_faults}
 use Rattle.cg_model.specs.Lining.{Line, Statement, is_readable, read_line}
 use Rattle.cg_model.specs.Sound.{is_word}
-use Rattle.cg_model.specs.Sourcing.{Content, reading, reading_of, only_set, Label, address_of, labels_with, line_size}
+use Rattle.cg_model.specs.Sourcing.{reading, reading_of, only_set, Label, address_of, labels_with, line_size}
 use Rattle.cg_model.specs.Spelling.{is_keyword}
 use Rattle.cg_model.specs.declared.machine.Machine.{Machine}
 use Rattle.cg_model.specs.source.E603.{taken_label}
