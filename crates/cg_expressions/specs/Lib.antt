@@ -1,0 +1,5 @@
+pub mod Asking
+pub mod Expressions
+pub mod Judging
+pub mod E315
+pub mod E405
