@@ -1,0 +1,5 @@
+pub mod Names
+pub mod MacroNames
+pub mod Words
+pub mod E304
+pub mod E306
