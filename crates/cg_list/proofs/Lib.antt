@@ -1,0 +1,5 @@
+pub mod Written
+pub mod Bundled
+pub mod Lined
+pub mod Listed
+pub mod Agreed

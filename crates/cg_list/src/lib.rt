@@ -1,0 +1,9 @@
+//! The listing of an image: source that gives the image again (docs/ASSEMBLY.md, "Listings").
+#![tactic(auto)]
+
+mod bundle;
+mod digits;
+mod line;
+mod listing;
+
+pub use listing::list;
