@@ -1,3 +1,4 @@
 pub mod AskingLemmas
+pub mod Loaded
 pub mod AnswerLemmas
 pub mod SomeReading

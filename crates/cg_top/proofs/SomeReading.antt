@@ -21,7 +21,8 @@ use Rattle.cg_top.specs.Asking.{asked}
 use Rattle.cg_gather.specs.Including.{included, is_short, parted, parted_at, include_at}
 use Rattle.cg_gather.specs.Gathering.{no_sources, HasText, with_file, with_short, may_include, too_many, placed, behind, Opens, unread, refused, read, Gathers, whole, short, file, another}
 use Rattle.cg_gather.specs.Fetching.{askings, files_asked}
-use Rattle.cg_top.specs.Replies.{bad_words, reply_to}
+use Rattle.cg_top.specs.Replies.{bad_words, refused as refused_reply, cannot_read, performed_on, RepliesTo}
+use Rattle.cg_top.proofs.Loaded.{some_loaded}
 use Rattle.cg_top.specs.Answer.{IsBad, IsReply, Answer}
 use Rattle.cg_gather.proofs.ShortForms.{no_fault}
 
@@ -117,6 +118,12 @@ module _ (files : Held) where
   description : (desc : List ℕ) → Opened no_sources desc []
   description desc = opened_by no_sources desc [] (λ ts. gathered 130 (with_file no_sources desc) ts (omega arith) (omega arith))
 
+-- Whatever was read is replied to.
+some_reply : (it : Asked) (fetched : Fetched) → (reply : Reply) × RepliesTo it fetched reply
+some_reply it (Read forms names) = let (x, loads) = some_loaded forms it.mach in (performed_on it names x, record { loaded = x; loads = loads; replied = refl })
+some_reply it (Refused refusal names) = (refused_reply it.desc names refusal, refl)
+some_reply it (Unread name names) = (cannot_read name, refl)
+
 -- Over files that tell what they hold, words have an answer in which no fault comes.
 pub answered_somehow : (words : List (List ℕ)) (files : Held) → (reads : List Asking) × (reply : Reply) × Answer words (Some files) ⊥ reads reply
 answered_somehow words files = at (asked words) where
@@ -124,4 +131,5 @@ answered_somehow words files = at (asked words) where
   at None = ([], bad_words, record { nothing = refl; replied = refl })
   at (Some it) =
       let (f, o) = description files it.desc in
-      (askings (files_asked f), reply_to it f, record { fetched = f; reading = o; names = refl; replied = refl })
+      let (reply, replied) = some_reply it f in
+      (askings (files_asked f), reply, record { fetched = f; reading = o; names = refl; replied = replied })

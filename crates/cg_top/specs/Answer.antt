@@ -7,7 +7,7 @@ use Rattle.cg_gather.specs.declared.gathering.Fetched.{Fetched}
 use Rattle.cg_top.specs.declared.replies.Reply.{Reply}
 use Rattle.cg_top.specs.Asking.{asked}
 use Rattle.cg_gather.specs.Fetching.{IsFetched, askings, files_asked}
-use Rattle.cg_top.specs.Replies.{bad_words, reply_to}
+use Rattle.cg_top.specs.Replies.{bad_words, RepliesTo}
 
 -- The reply is that to what reading the description gives, and the description's files are what is read. A fault, where one
 -- came, may stand in the place of reading.
@@ -15,7 +15,7 @@ pub record IsReply (asked : Asked) (held : Option Held) (fault : Type 0) (reads 
   pub fetched : Fetched
   pub reading : IsFetched asked.desc held fault fetched
   pub names : reads ≡ askings (files_asked fetched)
-  pub replied : reply ≡ reply_to asked fetched
+  pub replied : RepliesTo asked fetched reply
 
 -- Words that ask nothing are bad words, for which nothing is read.
 pub record IsBad (reads : List Asking) (reply : Reply) : Type 0 where

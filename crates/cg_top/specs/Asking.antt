@@ -2,9 +2,9 @@
 use Rattle.std.specs.Prelude.{ℕ, ◌+◌, ◌-◌, ◌*◌, ◌&&◌, nat_le, if◌then◌else◌, List, [], ◌∷◌, length, Option, Some, None, codes}
 use Rattle.cg_base.specs.Parts.{◌>>=◌}
 use Rattle.cg_base.specs.Texts.{same_text}
-use Rattle.cg_gather.specs.Shape.{three}
+use Rattle.cg_gather.specs.Shape.{two, three}
 use Rattle.cg_top.specs.declared.asking.Asked.{Asked}
-use Rattle.cg_top.specs.declared.asking.Command.TheVariants.{Decode}
+use Rattle.cg_top.specs.declared.asking.Command.TheVariants.{Check, Decode}
 
 -- The number that a hexadecimal digit stands for.
 abbrev pub digit_of : ℕ → Option ℕ
@@ -31,8 +31,17 @@ decode_asked words = do
   bytes ← hex_bytes x.2
   Some (record { desc = x.0; mach = x.1; command = Decode bytes })
 
+-- What `DESC MACH` ask behind `check`.
+unfoldable pub check_asked : List (List ℕ) → Option Asked
+check_asked words = do
+  x ← two words
+  Some (record { desc = x.0; mach = x.1; command = Check })
+
 abbrev pub asked_by : List ℕ → List (List ℕ) → Option Asked
-asked_by command words = if same_text command (codes "decode") then decode_asked words else None
+asked_by command words =
+    if same_text command (codes "decode") then decode_asked words
+    else if same_text command (codes "check") then check_asked words
+    else None
 
 -- What the words ask: the first is the command.
 abbrev pub asked : List (List ℕ) → Option Asked

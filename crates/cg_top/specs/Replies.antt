@@ -1,18 +1,19 @@
 -- What is printed, and with which status.
-use Rattle.std.specs.Prelude.{ℕ, List, [], ◌∷◌, ◌++◌, slice_get, Result, Ok, Err, codes, pos}
+use Rattle.std.specs.Prelude.{◌≡◌, ℕ, List, [], ◌∷◌, ◌++◌, length, slice_get, Result, Ok, Err, codes, pos}
 use Rattle.std.specs.Option.{unwrap_or}
 use Rattle.std.specs.Fmt.{signed_decimal}
 use Rattle.cg_base.specs.declared.form.Forms.{Forms}
 use Rattle.cg_base.specs.declared.refusal.Refusal.{Refusal}
 use Rattle.cg_top.specs.declared.asking.Asked.{Asked}
 use Rattle.cg_top.specs.declared.asking.Command.{Command}
-use Rattle.cg_top.specs.declared.asking.Command.TheVariants.{Decode}
+use Rattle.cg_top.specs.declared.asking.Command.TheVariants.{Check, Decode}
 use Rattle.cg_gather.specs.declared.gathering.Fetched.{Fetched}
 use Rattle.cg_gather.specs.declared.gathering.Fetched.TheVariants.{Read, Refused, Unread}
-use Rattle.cg_thin.specs.declared.machine.Machine.{Machine}
+use Rattle.cg_decode.specs.Lines.{decoded_line}
+use Rattle.cg_desc.specs.Answering.{as_stop}
+use Rattle.cg_model.specs.declared.machine.Machine.{Machine}
 use Rattle.cg_top.specs.declared.replies.Reply.{Reply}
-use Rattle.cg_top.specs.Loading.{loaded}
-use Rattle.cg_thin.specs.Matching.{decoded}
+use Rattle.cg_top.specs.Loading.{Loads}
 
 abbrev pub reply : ℕ → List (List ℕ) → Reply
 reply status lines = record { status = status; lines = lines }
@@ -49,20 +50,27 @@ cannot_read name = reply 3 ((codes "cannot read " ++ name ++ codes "\n") ∷ [])
 abbrev pub bad_words : Reply
 bad_words = reply 2 (codes "bad words\n" ∷ [])
 
+-- How many instructions a machine has that is accepted.
+abbrev pub count_line : ℕ → List ℕ
+count_line n = codes "ok " ++ decimal_of n ++ codes " instructions\n"
+
 -- What a command does with its machine.
 abbrev pub performed : Command → Machine → Reply
-performed (Decode bytes) machine = reply 0 (decoded machine bytes)
+performed Check machine = reply 0 (count_line (length machine.insns) ∷ [])
+performed (Decode bytes) machine = reply 0 (decoded_line machine bytes ∷ [])
 
 abbrev pub performed_on : Asked → List (List ℕ) → Result Machine Refusal → Reply
 performed_on asked names (Ok machine) = performed asked.command machine
 performed_on asked names (Err refusal) = refused asked.desc names refusal
 
--- What is answered where the description has these forms, from files of these names.
-abbrev pub described : Asked → Forms → List (List ℕ) → Reply
-described asked forms names = performed_on asked names (loaded forms asked.mach)
+-- This is replied where the description has these forms, from files of these names.
+pub record IsDescribed (asked : Asked) (forms : Forms) (names : List (List ℕ)) (given : Reply) : Type 0 where
+  pub loaded : Result Machine Refusal
+  pub loads : Loads forms asked.mach (as_stop loaded)
+  pub replied : given ≡ performed_on asked names loaded
 
--- What is answered by what reading the description gave.
-abbrev pub reply_to : Asked → Fetched → Reply
-reply_to asked (Read forms names) = described asked forms names
-reply_to asked (Refused refusal names) = refused asked.desc names refusal
-reply_to asked (Unread name names) = cannot_read name
+-- This is replied to what reading the description gave.
+abbrev pub RepliesTo : Asked → Fetched → Reply → Type 0
+RepliesTo asked (Read forms names) given = IsDescribed asked forms names given
+RepliesTo asked (Refused refusal names) given = given ≡ refused asked.desc names refusal
+RepliesTo asked (Unread name names) given = given ≡ cannot_read name

@@ -1,14 +1,16 @@
 ghost use Rattle.std.specs.Prelude.{◌≡◌, ◌<◌, IfOk, IfSome};
-ghost use Rattle.cg_top.specs.Asking.{digit_of, bytes_of, hex_bytes, decode_asked, asked};
+ghost use Rattle.cg_top.specs.Asking.{digit_of, bytes_of, hex_bytes, decode_asked, check_asked, asked};
 
 use cg_base::{NoMemory, Text};
-use cg_gather::three;
+use cg_gather::{three, two};
 use std::alloc::Global;
 
 /// What a machine is asked for.
 #[derive(Debug, Drop)]
 pub enum Command {
-    /// The instructions that match these bytes.
+    /// How many instructions there are, where nothing is at fault.
+    Check,
+    /// The instruction that these bytes are decoded to.
     Decode(Text),
 }
 
@@ -32,6 +34,8 @@ pub fn ask_of(alloc: Global, words: &[Text]) -> Result<Option<Asked>, NoMemory>
     };
     if command.as_slice() == b"decode".as_slice() {
         Ok(decode_asked(alloc, rest)?)
+    } else if command.as_slice() == b"check".as_slice() {
+        Ok(check_asked(rest)?)
     } else {
         Ok(None)
     }
@@ -52,6 +56,21 @@ fn decode_asked(alloc: Global, words: &[Text]) -> Result<Option<Asked>, NoMemory
         desc: desc.clone()?,
         mach: mach.clone()?,
         command: Command::Decode(bytes),
+    }))
+}
+
+/// What `DESC MACH` ask behind `check`.
+#[tactic(auto, unfolding(crate::specs::Asking::check_asked))]
+fn check_asked(words: &[Text]) -> Result<Option<Asked>, NoMemory>
+    ensures { IfOk result (λ answer. answer ≡ check_asked words.now) }
+{
+    let Some((desc, mach)) = two(words) else {
+        return Ok(None);
+    };
+    Ok(Some(Asked {
+        desc: desc.clone()?,
+        mach: mach.clone()?,
+        command: Command::Check,
     }))
 }
 

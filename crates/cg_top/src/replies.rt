@@ -2,16 +2,19 @@ ghost use Rattle.std.specs.Prelude.{◌≡◌, ◌≤◌, IfOk, OnOk, ◌++◌, 
 ghost use Rattle.cg_base.specs.Counts.{Rose};
 ghost use Rattle.cg_io.specs.Asking.{Asking};
 ghost use Rattle.cg_io.specs.Held.{Held, appended, AppendsFront};
-ghost use Rattle.cg_top.specs.Replies.{reply, decimal_of, behind_blank, refusal_line, name_of, refused, cannot_read, bad_words, performed, described, reply_to};
+ghost use Rattle.cg_model.specs.faults.Accepted.{IsAccepted};
+ghost use Rattle.cg_top.specs.Replies.{reply, decimal_of, behind_blank, refusal_line, name_of, refused, cannot_read, bad_words, count_line, performed, IsDescribed, RepliesTo};
 ghost use Rattle.cg_top.specs.declared.replies.Reply.{Reply as Replied};
 ghost use Rattle.cg_top.specs.Answer.{Answer, IsReply, IsReplyTo};
 
 use crate::asking::{Asked, Command, ask_of};
 use crate::loading::load;
 use cg_base::{Forms, List, NoMemory, Refusal, Stop, Text, decimal};
+use cg_decode::decode;
 use cg_gather::{Fetched, fetch};
 use cg_io::Files;
-use cg_thin::{Machine, decode};
+use cg_model::Machine;
+use cg_sound::accepted_is_sound;
 use std::alloc::Global;
 
 /// What a command is answered: the lines to print, each with its end, and the status.
@@ -45,7 +48,7 @@ fn append_other(text: &mut Text, other: &[u8]) -> Result<(), NoMemory>
 }
 
 /// Puts the decimal digits of a number at the end.
-fn append_number(alloc: Global, text: &mut Text, number: u32) -> Result<(), NoMemory>
+fn append_number(alloc: Global, text: &mut Text, number: u64) -> Result<(), NoMemory>
     ensures { OnOk result (text.new ≡ text.old ++ decimal_of number) }
 {
     let digits = decimal(alloc, i128::from(number))?;
@@ -58,11 +61,11 @@ fn refusal_line(alloc: Global, name: &Text, refusal: &Refusal) -> Result<Text, N
     ensures { IfOk result (λ line. line ≡ refusal_line name.now refusal.now) }
 {
     let mut line = Text::of(alloc, b"E".as_slice())?;
-    append_number(alloc, &mut line, u32::from(refusal.number))?;
+    append_number(alloc, &mut line, u64::from(refusal.number))?;
     line.push(b' ')?;
     line.append(name.as_slice())?;
     line.push(b':')?;
-    append_number(alloc, &mut line, refusal.line)?;
+    append_number(alloc, &mut line, u64::from(refusal.line))?;
     line.push(b' ')?;
     line.append(refusal.text.as_slice())?;
     append_other(&mut line, refusal.other.as_slice())?;
@@ -109,26 +112,37 @@ fn bad_words(alloc: Global) -> Result<Reply, NoMemory>
     one_line(alloc, 2, line)
 }
 
+/// `ok N instructions`.
+fn ok_line(alloc: Global, count: u64) -> Result<Text, NoMemory>
+    ensures { IfOk result (λ line. line ≡ count_line count) }
+{
+    let mut line = Text::of(alloc, b"ok ".as_slice())?;
+    append_number(alloc, &mut line, count)?;
+    line.append(b" instructions\n".as_slice())?;
+    Ok(line)
+}
+
 /// What a command does with its machine.
 fn perform(alloc: Global, command: &Command, machine: &Machine) -> Result<Reply, NoMemory>
+    requires { IsAccepted machine.now }
     ensures { IfOk result (λ answer. answer ≡ performed command.now machine.now) }
 {
+    accepted_is_sound(machine);
     match command {
-        Command::Decode(bytes) => {
-            let lines = decode(alloc, machine, bytes.as_slice())?;
-            Ok(Reply { status: 0, lines })
-        }
+        Command::Check => one_line(alloc, 0, ok_line(alloc, machine.insns.len() as u64)?),
+        Command::Decode(bytes) => one_line(alloc, 0, decode(alloc, machine, bytes.as_slice())?),
     }
 }
 
 /// What is answered where the description has these forms, from files of these names.
+#[tactic(auto, using(crate::proofs::Loaded::replying))]
 fn describe(
     alloc: Global,
     asked: &Asked,
     forms: &Forms,
     names: &List<Text>,
 ) -> Result<Reply, NoMemory>
-    ensures { IfOk result (λ answer. answer ≡ described asked.now forms.now names.now) }
+    ensures { IfOk result (IsDescribed asked.now forms.now names.now) }
 {
     match load(alloc, forms, &asked.mach) {
         Ok(machine) => perform(alloc, &asked.command, &machine),
@@ -139,7 +153,7 @@ fn describe(
 
 /// What is answered by what reading the description gave.
 fn reply_to(alloc: Global, asked: &Asked, fetched: &Fetched) -> Result<Reply, NoMemory>
-    ensures { IfOk result (λ answer. answer ≡ reply_to asked.now fetched.now) }
+    ensures { IfOk result (RepliesTo asked.now fetched.now) }
 {
     match fetched {
         Fetched::Read(forms, names) => describe(alloc, asked, forms, names),

@@ -1,4 +1,0 @@
-pub mod Names
-pub mod Fitting
-pub mod Thin
-pub mod Matching
