@@ -5,6 +5,12 @@ use Rattle.cg_said.specs.declared.saying.Saying.{Saying}
 use Rattle.cg_said.specs.Saying.{Numbered, least_said}
 use Rattle.cg_said.proofs.Firsts.{least_append}
 
+-- what the first of three parts says
+pub first_of : (xs ys zs : Numbered) (x : ℕ × Saying) → Some x ≡ least_said xs → Some x ≡ least_said (xs ++ (ys ++ zs))
+first_of xs ys zs x some =
+    let first : option_or (least_said xs) (least_said (ys ++ zs)) ≡ Some x = ap (λ o. option_or o (least_said (ys ++ zs))) (sym some) in
+    sym (least_append xs (ys ++ zs) ∙ first)
+
 -- what the second of three parts says, where the first says nothing
 pub second_of : (xs ys zs : Numbered) (x : ℕ × Saying) → None ≡ least_said xs → Some x ≡ least_said ys → Some x ≡ least_said (xs ++ (ys ++ zs))
 second_of xs ys zs x none some =

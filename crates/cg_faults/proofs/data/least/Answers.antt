@@ -3,8 +3,16 @@ use Rattle.cg_said.specs.Saying.{least_said}
 use Rattle.cg_said.specs.Subject.{described_in, machine_in, element_in, form_in, insns_in}
 use Rattle.cg_selected.specs.Seen.{base}
 use Rattle.cg_faults.specs.Least.{by_names, by_bits, by_rules}
-use Rattle.cg_faults.proofs.Leasts.{second_of, third_where}
+use Rattle.cg_faults.proofs.Leasts.{first_of, second_of, third_where}
 use Rattle.cg_faults.proofs.data.least.Goals as goal
+
+pub returns-in-Some-clause-value : goal.returns-in-Some-clause-value
+returns-in-Some-clause-value c =
+    let of = c.args.of.now in
+    let scope = base c.args.scope.now in
+    let some : Some c.in-Some.found ≡ c.in_ok-found.field-0 = search rules in
+    first_of (by_names (described_in of) scope (machine_in of) of.number (element_in of) (form_in of) (insns_in of)) (by_bits (described_in of) scope (machine_in of) c.args.before.now c.args.own.now of.number (element_in of) (form_in of) (insns_in of))
+    (by_rules (described_in of) scope (machine_in of) of.number (element_in of) (form_in of) (insns_in of)) c.in-Some.found (some ∙ c.in_ok-found.ensures.value)
 
 pub returns-in-Some-2-clause-value : goal.returns-in-Some-2-clause-value
 returns-in-Some-2-clause-value c =
