@@ -29,11 +29,11 @@ unknown_loads forms name = at (expansion forms) where
 
 pub ruleset loading = (expanded_loads, refused_loads, unknown_loads)
 
-pub replies_machine : (asked : Asked) (forms : Forms) (names : List (List ℕ)) (m : Machine) (r : Reply) → Loads forms asked.mach (Ok m) → r ≡ performed asked.command m → IsDescribed asked forms names r
-replies_machine asked forms names m r loads is = record { loaded = Ok m; loads = loads; replied = is }
+pub replies_machine : (asked : Asked) (forms : Forms) (names : List (List ℕ)) (own : List ℕ) (m : Machine) (r : Reply) → Loads forms asked.mach (Ok m) → r ≡ performed asked.command m own → IsDescribed asked forms names own r
+replies_machine asked forms names own m r loads is = record { loaded = Ok m; loads = loads; replied = is }
 
-pub replies_refusal : (asked : Asked) (forms : Forms) (names : List (List ℕ)) (refusal : Refusal) (r : Reply) → Loads forms asked.mach (Err (Refused refusal)) → r ≡ refused asked.desc names refusal → IsDescribed asked forms names r
-replies_refusal asked forms names refusal r loads is = record { loaded = Err refusal; loads = loads; replied = is }
+pub replies_refusal : (asked : Asked) (forms : Forms) (names : List (List ℕ)) (own : List ℕ) (refusal : Refusal) (r : Reply) → Loads forms asked.mach (Err (Refused refusal)) → r ≡ refused asked.desc names refusal → IsDescribed asked forms names own r
+replies_refusal asked forms names own refusal r loads is = record { loaded = Err refusal; loads = loads; replied = is }
 
 pub ruleset replying = (replies_machine, replies_refusal)
 

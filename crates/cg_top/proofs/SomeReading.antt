@@ -1,5 +1,5 @@
 -- Over files that tell what they hold, each description is read in some way where no fault comes.
-use Rattle.std.proofs.Common.{◌≡◌, ◌⊎◌, ◌≤◌, ◌<◌, ℕ, ◌+◌, ◌*◌, zero, suc, Bool, true, false, nat_le, ◌&&◌, List, [], ◌∷◌, ◌++◌, map, length, Option, Some, None, refl, subst, inl, inr, arith, length-append}
+use Rattle.std.proofs.Common.{◌≡◌, ◌⊎◌, ◌≤◌, ◌<◌, ℕ, ◌+◌, ◌*◌, zero, suc, Bool, true, false, nat_le, ◌&&◌, List, [], ◌∷◌, ◌++◌, map, length, Option, Some, None, Result, Ok, Err, refl, subst, inl, inr, arith, length-append}
 use Rattle.std.proofs.lemmas.Bool.Decides.{nat_tests}
 use Rattle.std.specs.Prelude.{MatchOption, if◌then◌else◌}
 use Rattle.std.specs.FinMap.{get}
@@ -21,6 +21,7 @@ use Rattle.cg_top.specs.Asking.{asked}
 use Rattle.cg_gather.specs.Including.{included, is_short, parted, parted_at, include_at}
 use Rattle.cg_gather.specs.Gathering.{no_sources, HasText, with_file, with_short, may_include, too_many, placed, behind, Opens, unread, refused, read, Gathers, whole, short, file, another}
 use Rattle.cg_gather.specs.Fetching.{askings, files_asked}
+use Rattle.cg_top.specs.Own.{own_file, own_asked, IsOwn}
 use Rattle.cg_top.specs.Replies.{bad_words, refused as refused_reply, cannot_read, performed_on, RepliesTo}
 use Rattle.cg_top.proofs.Loaded.{some_loaded}
 use Rattle.cg_top.specs.Answer.{IsBad, IsReply, Answer}
@@ -118,11 +119,24 @@ module _ (files : Held) where
   description : (desc : List ℕ) → Opened no_sources desc []
   description desc = opened_by no_sources desc [] (λ ts. gathered 130 (with_file no_sources desc) ts (omega arith) (omega arith))
 
+-- A command's own file is given in some way.
+some_own : (files : Held) (file : Option Asking) → (own : Result (List ℕ) (List ℕ)) × IsOwn file (Some files) ⊥ own
+some_own files None = (Ok [], refl)
+some_own files (Some asking) = at (get files asking.0) refl where
+  sized : (bytes : List ℕ) → get files asking.0 ≡ Some bytes → (b : Bool) → nat_le (length bytes) asking.1 ≡ b → (own : Result (List ℕ) (List ℕ)) × IsOwn (Some asking) (Some files) ⊥ own
+  sized bytes e true h = let within : length bytes ≤ asking.1 = grind (arith, nat_tests) in (Ok bytes, record { there = e; within = within })
+  sized bytes e false h = let long : asking.1 < length bytes = grind (arith, nat_tests) in (Err asking.0, (refl, inl (inr (bytes, e, long))))
+
+  at : (o : Option (List ℕ)) → get files asking.0 ≡ o → (own : Result (List ℕ) (List ℕ)) × IsOwn (Some asking) (Some files) ⊥ own
+  at None e = (Err asking.0, (refl, inl (inl e)))
+  at (Some bytes) e = sized bytes e (nat_le (length bytes) asking.1) refl
+
 -- Whatever was read is replied to.
-some_reply : (it : Asked) (fetched : Fetched) → (reply : Reply) × RepliesTo it fetched reply
-some_reply it (Read forms names) = let (x, loads) = some_loaded forms it.mach in (performed_on it names x, record { loaded = x; loads = loads; replied = refl })
-some_reply it (Refused refusal names) = (refused_reply it.desc names refusal, refl)
-some_reply it (Unread name names) = (cannot_read name, refl)
+some_reply : (it : Asked) (fetched : Fetched) (own : Result (List ℕ) (List ℕ)) → (reply : Reply) × RepliesTo it fetched own reply
+some_reply it (Read forms names) (Ok own) = let (x, loads) = some_loaded forms it.mach in (performed_on it names own x, record { loaded = x; loads = loads; replied = refl })
+some_reply it (Read forms names) (Err name) = (cannot_read name, refl)
+some_reply it (Refused refusal names) own = (refused_reply it.desc names refusal, refl)
+some_reply it (Unread name names) own = (cannot_read name, refl)
 
 -- Over files that tell what they hold, words have an answer in which no fault comes.
 pub answered_somehow : (words : List (List ℕ)) (files : Held) → (reads : List Asking) × (reply : Reply) × Answer words (Some files) ⊥ reads reply
@@ -131,5 +145,6 @@ answered_somehow words files = at (asked words) where
   at None = ([], bad_words, record { nothing = refl; replied = refl })
   at (Some it) =
       let (f, o) = description files it.desc in
-      let (reply, replied) = some_reply it f in
-      (askings (files_asked f), reply, record { fetched = f; reading = o; names = refl; replied = replied })
+      let (own, given) = some_own files (own_file it.command f) in
+      let (reply, replied) = some_reply it f own in
+      (askings (files_asked f) ++ own_asked (own_file it.command f), reply, record { fetched = f; reading = o; own = own; given = given; names = refl; replied = replied })

@@ -1,10 +1,11 @@
 -- What the words of a command ask.
 use Rattle.std.specs.Prelude.{ℕ, ◌+◌, ◌-◌, ◌*◌, ◌&&◌, nat_le, if◌then◌else◌, List, [], ◌∷◌, length, Option, Some, None, codes}
 use Rattle.cg_base.specs.Parts.{◌>>=◌}
+use Rattle.cg_base.specs.Numerals.{number_written}
 use Rattle.cg_base.specs.Texts.{same_text}
 use Rattle.cg_gather.specs.Shape.{two, three}
 use Rattle.cg_top.specs.declared.asking.Asked.{Asked}
-use Rattle.cg_top.specs.declared.asking.Command.TheVariants.{Check, Decode}
+use Rattle.cg_top.specs.declared.asking.Command.TheVariants.{Check, Decode, Assemble}
 
 -- The number that a hexadecimal digit stands for.
 abbrev pub digit_of : ℕ → Option ℕ
@@ -37,10 +38,23 @@ check_asked words = do
   x ← two words
   Some (record { desc = x.0; mach = x.1; command = Check })
 
+-- The elements of a list of just five.
+abbrev pub five : {A : Type 0} → List A → Option (A × A × A × A × A)
+five (a ∷ b ∷ c ∷ d ∷ e ∷ []) = Some (a, b, c, d, e)
+five _ = None
+
+-- What `DESC MACH SOURCE BASE IMAGE` ask behind `asm`.
+unfoldable pub asm_asked : List (List ℕ) → Option Asked
+asm_asked words = do
+  x ← five words
+  base ← number_written x.3
+  Some (record { desc = x.0; mach = x.1; command = Assemble (record { source = x.2; base = base; image = x.4 }) })
+
 abbrev pub asked_by : List ℕ → List (List ℕ) → Option Asked
 asked_by command words =
     if same_text command (codes "decode") then decode_asked words
     else if same_text command (codes "check") then check_asked words
+    else if same_text command (codes "asm") then asm_asked words
     else None
 
 -- What the words ask: the first is the command.

@@ -1,5 +1,6 @@
 pub mod Asking
 pub mod Loading
+pub mod Own
 pub mod Replies
 pub mod Answer
 pub mod Top

@@ -1,8 +1,9 @@
 ghost use Rattle.std.specs.Prelude.{◌≡◌, ◌<◌, IfOk, IfSome};
-ghost use Rattle.cg_top.specs.Asking.{digit_of, bytes_of, hex_bytes, decode_asked, check_asked, asked};
+ghost use Rattle.std.specs.Option.{option_map};
+ghost use Rattle.cg_top.specs.Asking.{digit_of, bytes_of, hex_bytes, decode_asked, check_asked, asm_asked, asked, five};
 
-use cg_base::{NoMemory, Text};
-use cg_gather::{three, two};
+use cg_base::{NoMemory, Text, read_number};
+use cg_gather::{four, three, two};
 use std::alloc::Global;
 
 /// What a machine is asked for.
@@ -12,6 +13,19 @@ pub enum Command {
     Check,
     /// The instruction that these bytes are decoded to.
     Decode(Text),
+    /// The image of a source, which is written to a file.
+    Assemble(Assembly),
+}
+
+/// An image that is asked for.
+#[derive(Debug, Drop)]
+pub struct Assembly {
+    /// The name of the source's file.
+    pub source: Text,
+    /// The address of the image's first byte.
+    pub base: u64,
+    /// The name of the file that the image is written to.
+    pub image: Text,
 }
 
 /// What the words of a command ask (docs/RUNNING.md, "Commands").
@@ -36,6 +50,8 @@ pub fn ask_of(alloc: Global, words: &[Text]) -> Result<Option<Asked>, NoMemory>
         Ok(decode_asked(alloc, rest)?)
     } else if command.as_slice() == b"check".as_slice() {
         Ok(check_asked(rest)?)
+    } else if command.as_slice() == b"asm".as_slice() {
+        Ok(asm_asked(rest)?)
     } else {
         Ok(None)
     }
@@ -72,6 +88,38 @@ fn check_asked(words: &[Text]) -> Result<Option<Asked>, NoMemory>
         mach: mach.clone()?,
         command: Command::Check,
     }))
+}
+
+/// What `DESC MACH SOURCE BASE IMAGE` ask behind `asm`.
+#[tactic(auto, unfolding(crate::specs::Asking::asm_asked))]
+fn asm_asked(words: &[Text]) -> Result<Option<Asked>, NoMemory>
+    ensures { IfOk result (λ answer. answer ≡ asm_asked words.now) }
+{
+    let Some((desc, mach, source, base, image)) = five(words) else {
+        return Ok(None);
+    };
+    let Some(base) = read_number(base.as_slice()) else {
+        return Ok(None);
+    };
+    Ok(Some(Asked {
+        desc: desc.clone()?,
+        mach: mach.clone()?,
+        command: Command::Assemble(Assembly {
+            source: source.clone()?,
+            base,
+            image: image.clone()?,
+        }),
+    }))
+}
+
+/// The elements of a list of just five.
+#[tactic(auto, using(crate::proofs::AskingLemmas::five_by_four))]
+fn five<T>(items: &[T]) -> Option<(&T, &T, &T, &T, &T)>
+    ensures { option_map (λ x. (x.0.now, x.1.now, x.2.now, x.3.now, x.4.now)) result ≡ five items.now }
+{
+    let (first, rest) = items.split_first()?;
+    let (second, third, fourth, fifth) = four(rest)?;
+    Some((first, second, third, fourth, fifth))
 }
 
 /// The bytes of 2 to 32 hexadecimal digits, an even count.

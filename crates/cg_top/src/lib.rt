@@ -2,8 +2,10 @@
 #![tactic(auto)]
 
 mod asking;
+mod image;
 mod laws;
 mod loading;
+mod own;
 mod replies;
 mod top;
 

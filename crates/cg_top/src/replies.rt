@@ -3,12 +3,15 @@ ghost use Rattle.cg_base.specs.Counts.{Rose};
 ghost use Rattle.cg_io.specs.Asking.{Asking};
 ghost use Rattle.cg_io.specs.Held.{Held, appended, AppendsFront};
 ghost use Rattle.cg_model.specs.faults.Accepted.{IsAccepted};
-ghost use Rattle.cg_top.specs.Replies.{reply, decimal_of, behind_blank, refusal_line, name_of, refused, cannot_read, bad_words, count_line, performed, IsDescribed, RepliesTo};
+ghost use Rattle.cg_top.specs.Replies.{reply, decimal_of, behind_blank, refusal_line, name_of, refused, cannot_read, cannot_write, bad_words, count_line, performed, IsDescribed, RepliesTo};
 ghost use Rattle.cg_top.specs.declared.replies.Reply.{Reply as Replied};
 ghost use Rattle.cg_top.specs.Answer.{Answer, IsReply, IsReplyTo};
+ghost use Rattle.cg_top.specs.Own.{seen_own};
 
 use crate::asking::{Asked, Command, ask_of};
+use crate::image::assembled;
 use crate::loading::load;
+use crate::own::{Own, fetch_own};
 use cg_base::{Forms, List, NoMemory, Refusal, Stop, Text, decimal};
 use cg_decode::decode;
 use cg_gather::{Fetched, fetch};
@@ -24,15 +27,30 @@ pub struct Reply {
     pub status: u8,
     /// In order.
     pub lines: List<Text>,
+    /// The file that is written before the lines are printed.
+    pub file: Option<NewFile>,
 }
 
-/// A reply of one line.
-fn one_line(alloc: Global, status: u8, line: Text) -> Result<Reply, NoMemory>
+/// A file that is written.
+#[derive(Debug, Drop)]
+pub struct NewFile {
+    /// Its name.
+    pub name: Text,
+    /// Its bytes.
+    pub bytes: Text,
+}
+
+/// A reply of one line, without a file.
+pub(crate) fn one_line(alloc: Global, status: u8, line: Text) -> Result<Reply, NoMemory>
     ensures { IfOk result (λ answer. answer ≡ reply status (line ∷ [])) }
 {
     let mut lines = List::new(alloc);
     lines.push(line)?;
-    Ok(Reply { status, lines })
+    Ok(Reply {
+        status,
+        lines,
+        file: None,
+    })
 }
 
 /// Puts bytes behind a blank at the end, where there are any.
@@ -48,7 +66,7 @@ fn append_other(text: &mut Text, other: &[u8]) -> Result<(), NoMemory>
 }
 
 /// Puts the decimal digits of a number at the end.
-fn append_number(alloc: Global, text: &mut Text, number: u64) -> Result<(), NoMemory>
+pub(crate) fn append_number(alloc: Global, text: &mut Text, number: u64) -> Result<(), NoMemory>
     ensures { OnOk result (text.new ≡ text.old ++ decimal_of number) }
 {
     let digits = decimal(alloc, i128::from(number))?;
@@ -57,7 +75,7 @@ fn append_number(alloc: Global, text: &mut Text, number: u64) -> Result<(), NoMe
 }
 
 /// `E<number> <name>:<line> <text>`, then a blank and the other text where it isn't empty.
-fn refusal_line(alloc: Global, name: &Text, refusal: &Refusal) -> Result<Text, NoMemory>
+pub(crate) fn refusal_line(alloc: Global, name: &Text, refusal: &Refusal) -> Result<Text, NoMemory>
     ensures { IfOk result (λ line. line ≡ refusal_line name.now refusal.now) }
 {
     let mut line = Text::of(alloc, b"E".as_slice())?;
@@ -105,6 +123,16 @@ fn cannot_read(alloc: Global, name: &Text) -> Result<Reply, NoMemory>
     one_line(alloc, 3, line)
 }
 
+/// A file that can't be written.
+pub(crate) fn cannot_write(alloc: Global, name: &Text) -> Result<Reply, NoMemory>
+    ensures { IfOk result (λ answer. answer ≡ cannot_write name.now) }
+{
+    let mut line = Text::of(alloc, b"cannot write ".as_slice())?;
+    line.append(name.as_slice())?;
+    line.push(b'\n')?;
+    one_line(alloc, 3, line)
+}
+
 fn bad_words(alloc: Global) -> Result<Reply, NoMemory>
     ensures { IfOk result (λ answer. answer ≡ bad_words) }
 {
@@ -122,41 +150,66 @@ fn ok_line(alloc: Global, count: u64) -> Result<Text, NoMemory>
     Ok(line)
 }
 
-/// What a command does with its machine.
-fn perform(alloc: Global, command: &Command, machine: &Machine) -> Result<Reply, NoMemory>
+/// What a command does with its machine and the bytes of its own file.
+fn perform(
+    alloc: Global,
+    command: &Command,
+    machine: &Machine,
+    own: &[u8],
+) -> Result<Reply, NoMemory>
     requires { IsAccepted machine.now }
-    ensures { IfOk result (λ answer. answer ≡ performed command.now machine.now) }
+    ensures { IfOk result (λ answer. answer ≡ performed command.now machine.now own.now) }
 {
     accepted_is_sound(machine);
     match command {
         Command::Check => one_line(alloc, 0, ok_line(alloc, machine.insns.len() as u64)?),
         Command::Decode(bytes) => one_line(alloc, 0, decode(alloc, machine, bytes.as_slice())?),
+        Command::Assemble(it) => assembled(alloc, machine, it, own),
     }
 }
 
-/// What is answered where the description has these forms, from files of these names.
+/// What is answered where the description has these forms, from files of these names, and the command's
+/// own file these bytes.
 #[tactic(auto, using(crate::proofs::Loaded::replying))]
 fn describe(
     alloc: Global,
     asked: &Asked,
     forms: &Forms,
     names: &List<Text>,
+    own: &[u8],
 ) -> Result<Reply, NoMemory>
-    ensures { IfOk result (IsDescribed asked.now forms.now names.now) }
+    ensures { IfOk result (IsDescribed asked.now forms.now names.now own.now) }
 {
     match load(alloc, forms, &asked.mach) {
-        Ok(machine) => perform(alloc, &asked.command, &machine),
+        Ok(machine) => perform(alloc, &asked.command, &machine, own),
         Err(Stop::Refused(refusal)) => refused(alloc, &asked.desc, names, &refusal),
         Err(Stop::NoMemory) => Err(NoMemory),
     }
 }
 
-/// What is answered by what reading the description gave.
-fn reply_to(alloc: Global, asked: &Asked, fetched: &Fetched) -> Result<Reply, NoMemory>
-    ensures { IfOk result (RepliesTo asked.now fetched.now) }
+/// What is answered where the description has these forms, from files of these names, by what reading the
+/// command's own file gave.
+fn reply_read(
+    alloc: Global,
+    asked: &Asked,
+    forms: &Forms,
+    names: &List<Text>,
+    own: &Own,
+) -> Result<Reply, NoMemory>
+    ensures { IfOk result (RepliesTo asked.now (Fetched.Read forms.now names.now) (seen_own own.now)) }
+{
+    match own {
+        Own::Bytes(bytes) => describe(alloc, asked, forms, names, bytes.as_slice()),
+        Own::Unread(name) => cannot_read(alloc, name),
+    }
+}
+
+/// What is answered by what reading the description and the command's own file gave.
+fn reply_to(alloc: Global, asked: &Asked, fetched: &Fetched, own: &Own) -> Result<Reply, NoMemory>
+    ensures { IfOk result (RepliesTo asked.now fetched.now (seen_own own.now)) }
 {
     match fetched {
-        Fetched::Read(forms, names) => describe(alloc, asked, forms, names),
+        Fetched::Read(forms, names) => reply_read(alloc, asked, forms, names, own),
         Fetched::Refused(refusal, names) => refused(alloc, &asked.desc, names, refusal),
         Fetched::Unread(name, _) => cannot_read(alloc, name),
     }
@@ -182,5 +235,6 @@ fn answer_asked<F: Files>(alloc: Global, asked: &Asked, files: &mut F) -> Result
     ensures later { F.faults files.old ≤ F.faults files.new }
 {
     let fetched = fetch(alloc, &asked.desc, files)?;
-    Ok(reply_to(alloc, asked, &fetched)?)
+    let own = fetch_own(alloc, &asked.command, &fetched, files)?;
+    Ok(reply_to(alloc, asked, &fetched, &own)?)
 }
