@@ -1,14 +1,14 @@
--- Which instruction bytes are decoded to, and what its slots say.
-use Rattle.std.proofs.Common.{◌≡◌, ℕ, zero, suc, ◌+◌, ◌-◌, ◌<◌, ◌≤◌, Bool, true, false, ◌&&◌, if◌then◌else◌, List, [], ◌∷◌, ◌++◌, length, take, drop, get_or, replicate, Option, Some, None, slice_get, refl, sym, ap, ◌∙◌, subst, append_assoc, arith}
-use Rattle.std.proofs.lemmas.Option.{slice_get-get_or}
-use Rattle.std.proofs.lemmas.List.{drop_all}
+-- Which instruction is found in bytes, and what its slots say.
+use Rattle.std.proofs.Common.{◌≡◌, ℕ, zero, suc, ◌+◌, ◌-◌, ◌<◌, ◌≤◌, Bool, true, false, cond, List, [], ◌∷◌, ◌++◌, length, take, drop, get_or, replicate, Option, Some, None, slice_get, refl, sym, ap, ◌∙◌, subst, append_assoc, arith}
+use Rattle.std.specs.List.{find}
+use Rattle.std.proofs.lemmas.Bool.{false≢true}
+use Rattle.std.proofs.lemmas.Option.{slice_get_within}
 use Rattle.std.proofs.Math.Seq.{drop-cons}
 use Rattle.cg_base.specs.declared.mode.Mode.{Mode}
 use Rattle.cg_base.specs.declared.mode.Mode.TheVariants as mode
 use Rattle.cg_base.specs.Modes.{bits_of, is_signed}
 use Rattle.cg_code.specs.Coded.{matches_at, values_at, Holds}
 use Rattle.cg_decode.specs.Lines.{slots_text, slot_text, no_line, insn_line, line_at}
-use Rattle.cg_model.specs.Clashing.{decoded_from, decoded_to}
 use Rattle.cg_model.specs.Encoding.{own_pc}
 use Rattle.cg_model.specs.Matching.{matches}
 use Rattle.cg_model.specs.Slots.{slots_of, values}
@@ -18,6 +18,8 @@ use Rattle.cg_model.specs.declared.insn.Part.TheVariants.{Constant, Slot}
 use Rattle.cg_model.specs.declared.machine.Machine.{Machine}
 use Rattle.cg_model.specs.declared.operand.Operand.{Operand}
 use Rattle.cg_model.specs.declared.insn.Values.{Values}
+use Rattle.cg_tree.specs.declared.tree.Tree.{Tree}
+use Rattle.cg_tree.specs.Finding.{found, leaf_for}
 
 -- a mode that is signed has bits
 pub signed_bits : (k : Mode) → is_signed k ≡ true → (1 ≤ bits_of k) × (bits_of k ≤ 64)
@@ -34,63 +36,29 @@ signed_bits mode.Void h = absurd cc
 
 pub ruleset widths = (signed_bits)
 
--- What the instructions from a number on are decoded to is what all are decoded to.
-pub record Searching (m : Machine) (bytes : List ℕ) (k : ℕ) (rest : List Insn) : Type 0 where
-  pub left : decoded_from m bytes k rest ≡ decoded_to m bytes
+-- ---- what is found by a tree
 
-pub search_starts : (m : Machine) (bytes : List ℕ) → Searching m bytes 0 m.insns
-search_starts m bytes = record { left = refl }
+found_by_test : (p : ℕ → Bool) (x k : ℕ) (rest : Option ℕ) (b : Bool) → p x ≡ b → cond b (Some x) rest ≡ Some k → (rest ≡ Some k → p k ≡ true) → p k ≡ true
+found_by_test p x k rest true test e others = let same : x ≡ k = cc in subst (λ n. p n ≡ true) same test
+found_by_test p x k rest false test e others = others e
 
-search_split : (m : Machine) (bytes : List ℕ) (k : ℕ) (d : Insn) → k < length m.insns → Searching m bytes k (drop k m.insns) → Searching m bytes k (get_or m.insns k d ∷ drop (k + 1) m.insns)
-search_split m bytes k d within so_far =
-    let next : suc k ≡ k + 1 = omega arith in
-    let split : drop k m.insns ≡ get_or m.insns k d ∷ drop (k + 1) m.insns = drop-cons m.insns k d within ∙ ap (λ j. get_or m.insns k d ∷ drop j m.insns) next in
-    subst (Searching m bytes k) split so_far
+found_passes : (p : ℕ → Bool) (xs : List ℕ) (k : ℕ) → find p xs ≡ Some k → p k ≡ true
+found_passes p [] k e = absurd cc
+found_passes p (x ∷ xs) k e = found_by_test p x k (find p xs) (p x) refl e (found_passes p xs k)
 
--- what an instruction in hand is, by its number
-matches_in_hand : (m : Machine) (bytes : List ℕ) (k : ℕ) (d : Insn) → k < length m.insns → matches_at m k bytes ≡ matches m (get_or m.insns k d) bytes
-matches_in_hand m bytes k d within = ap (λ o. elim o as (λ _. Bool) [ None ↦ false | Some x ↦ matches m x bytes ]) (slice_get-get_or m.insns k d within)
+-- it matches
+pub found_matches : (t : Tree) (m : Machine) (bytes : List ℕ) (k : ℕ) → found t m bytes ≡ Some k → matches_at m k bytes ≡ true
+found_matches t m bytes k e = found_passes (λ j. matches_at m j bytes) (leaf_for t bytes) k e
 
--- what is said of it by the number that is counted is so of it where it stands
-tested : (m : Machine) (bytes : List ℕ) (k n : ℕ) (d x : Insn) (b : Bool) → k ≡ n → n < length m.insns → x ≡ get_or m.insns n d → (x.decodable && matches_at m k bytes) ≡ b
-    → ((get_or m.insns n d).decodable && matches m (get_or m.insns n d) bytes) ≡ b
-tested m bytes k n d x b same within is h =
-    let i : Insn = get_or m.insns n d in
-    sym (ap (λ t. i.decodable && t) (ap (λ j. matches_at m j bytes) same ∙ matches_in_hand m bytes n d within)) ∙ sym (ap (λ (y : Insn). y.decodable && matches_at m k bytes) is) ∙ h
+within_by : (m : Machine) (bytes : List ℕ) (k : ℕ) (o : Option Insn) → slice_get m.insns k ≡ o → elim o as (λ _. Bool) [ None ↦ false | Some i ↦ matches m i bytes ] ≡ true → k < length m.insns
+within_by m bytes k None at e = absurd (false≢true e)
+within_by m bytes k (Some i) at e = slice_get_within m.insns k i at
 
-search_found : (m : Machine) (bytes : List ℕ) (k n : ℕ) (d x : Insn) → k ≡ n → n < length m.insns → x ≡ get_or m.insns n d → (x.decodable && matches_at m k bytes) ≡ true
-    → Searching m bytes n (drop n m.insns) → Some k ≡ decoded_to m bytes
-search_found m bytes k n d x same within is h s =
-    let rest : List Insn = drop (n + 1) m.insns in
-    let test : ((get_or m.insns n d).decodable && matches m (get_or m.insns n d) bytes) ≡ true = tested m bytes k n d x true same within is h in
-    let from : Searching m bytes n (get_or m.insns n d ∷ rest) = search_split m bytes n d within s in
-    ap Some same ∙ sym (ap (λ b. if b then Some n else decoded_from m bytes (suc n) rest) test) ∙ from.left
+-- and the machine has it
+pub matching_within : (m : Machine) (bytes : List ℕ) (k : ℕ) → matches_at m k bytes ≡ true → k < length m.insns
+matching_within m bytes k e = within_by m bytes k (slice_get m.insns k) refl e
 
-search_on : (m : Machine) (bytes : List ℕ) (k n : ℕ) (d x : Insn) → k ≡ n → n < length m.insns → x ≡ get_or m.insns n d → (x.decodable && matches_at m k bytes) ≡ false
-    → Searching m bytes n (drop n m.insns) → Searching m bytes (n + 1) (drop (n + 1) m.insns)
-search_on m bytes k n d x same within is h s =
-    let rest : List Insn = drop (n + 1) m.insns in
-    let test : ((get_or m.insns n d).decodable && matches m (get_or m.insns n d) bytes) ≡ false = tested m bytes k n d x false same within is h in
-    let from : Searching m bytes n (get_or m.insns n d ∷ rest) = search_split m bytes n d within s in
-    let next : suc n ≡ n + 1 = omega arith in
-    let left : decoded_from m bytes (suc n) rest ≡ decoded_to m bytes = sym (ap (λ b. if b then Some n else decoded_from m bytes (suc n) rest) test) ∙ from.left in
-    subst (λ j. Searching m bytes j rest) next (record { left = left })
-
--- the same over a slice of all instructions
-pub found_among : (m : Machine) (bytes : List ℕ) (k n : ℕ) (d x : Insn) (xs : List Insn) → xs ≡ m.insns → k ≡ n → n < length xs → x ≡ get_or xs n d → (x.decodable && matches_at m k bytes) ≡ true
-    → Searching m bytes n (drop n m.insns) → Some k ≡ decoded_to m bytes
-found_among m bytes k n d x xs all same within is h s =
-    search_found m bytes k n d x same (subst (λ (ys : List Insn). n < length ys) all within) (is ∙ ap (λ ys. get_or ys n d) all) h s
-
-pub on_among : (m : Machine) (bytes : List ℕ) (k n : ℕ) (d x : Insn) (xs : List Insn) → xs ≡ m.insns → k ≡ n → n < length xs → x ≡ get_or xs n d → (x.decodable && matches_at m k bytes) ≡ false
-    → Searching m bytes n (drop n m.insns) → Searching m bytes (n + 1) (drop (n + 1) m.insns)
-on_among m bytes k n d x xs all same within is h s =
-    search_on m bytes k n d x same (subst (λ (ys : List Insn). n < length ys) all within) (is ∙ ap (λ ys. get_or ys n d) all) h s
-
-pub search_over : (m : Machine) (bytes : List ℕ) (k : ℕ) → length m.insns ≤ k → Searching m bytes k (drop k m.insns) → None ≡ decoded_to m bytes
-search_over m bytes k past s = sym (ap (decoded_from m bytes k) (drop_all k m.insns past)) ∙ s.left
-
-pub ruleset searching = (search_starts, search_over)
+-- ---- what its slots say
 
 -- the slots of parts one behind the other
 pub slots_append : (m : Machine) (ps qs : List Part) → slots_of m (ps ++ qs) ≡ slots_of m ps ++ slots_of m qs
@@ -151,4 +119,4 @@ line_is m bytes k i is = sym (ap (λ o. elim o as (λ _. List ℕ) [ None ↦ no
 pub values_are : (m : Machine) (bytes : List ℕ) (k : ℕ) (i : Insn) → slice_get m.insns k ≡ Some i → values_at m k bytes (own_pc m 0) ≡ values m i bytes (own_pc m 0)
 values_are m bytes k i is = ap (λ o. elim o as (λ _. List ℕ) [ None ↦ [] | Some x ↦ values m x bytes (own_pc m 0) ]) is
 
-pub ruleset lines = (numbers_held, few_held, line_is, values_are)
+pub ruleset lines = (numbers_held, few_held, line_is, values_are, found_matches)

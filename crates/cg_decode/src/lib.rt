@@ -1,8 +1,6 @@
-//! What bytes are decoded to, and the line that says so.
+//! The line that says what bytes are decoded to.
 #![tactic(auto)]
 
-mod decoding;
 mod lines;
 
-pub use decoding::decoded_to;
 pub use lines::decode;

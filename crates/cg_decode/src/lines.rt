@@ -5,11 +5,12 @@ ghost use Rattle.cg_code.specs.Coded.{matches_at};
 ghost use Rattle.cg_decode.specs.Lines as spec;
 ghost use Rattle.cg_model.specs.Slots.{slots_of};
 ghost use Rattle.cg_model.specs.Sound.{IsSound, SoundOperand};
+ghost use Rattle.cg_tree.specs.Finding.{found, IsTight};
 
-use crate::decoding::decoded_to;
 use cg_base::{Mode, NoMemory, Text, bits, decimal, signed};
 use cg_code::{extract, insn_at, operand_at, slot_mode};
 use cg_model::{Machine, Operand, Part};
+use cg_tree::{Steps, Tree};
 use std::alloc::Global;
 
 /// The number that the lowest bits stand for, where the highest of them is a sign.
@@ -126,16 +127,18 @@ fn line_at(alloc: Global, machine: &Machine, k: u16, bytes: &[u8]) -> Result<Tex
     Ok(text)
 }
 
-/// The line that says what bytes are decoded to (docs/RUNNING.md, "Commands"): the instruction's name and,
-/// for each slot in the format's order, a blank, the operand's name, `=` and its value in decimal digits,
-/// with the sign of the slot's mode, where the instruction stands at 0; and `none` where there is none. It
-/// ends with byte 10. An error is want of memory.
+/// The line that says what bytes are decoded to by a tree (docs/RUNNING.md, "Commands"): the instruction's
+/// name and, for each slot in the format's order, a blank, the operand's name, `=` and its value in decimal
+/// digits, with the sign of the slot's mode, where the instruction stands at 0; and `none` where there is
+/// none. It ends with byte 10. The tree may be another machine's. An error is want of memory.
 #[tactic(auto, using(crate::proofs::Decoded::lines))]
-pub fn decode(alloc: Global, machine: &Machine, bytes: &[u8]) -> Result<Text, NoMemory>
+pub fn decode(alloc: Global, machine: &Machine, tree: &Tree, bytes: &[u8]) -> Result<Text, NoMemory>
     requires { IsSound machine.now }
-    ensures { IfOk result (λ line. line ≡ spec.decoded_line machine.now bytes.now) }
+    ensures found { IfOk result (λ line. line ≡ spec.line_where machine.now bytes.now (found tree.now machine.now bytes.now)) }
+    ensures decoded { IsTight tree.now machine.now → IfOk result (λ line. line ≡ spec.decoded_line machine.now bytes.now) }
 {
-    match decoded_to(machine, bytes) {
+    let mut steps = Steps::new();
+    match tree.find(machine, bytes, &mut steps) {
         Some(k) => Ok(line_at(alloc, machine, k, bytes)?),
         None => Ok(Text::of(alloc, b"none\n".as_slice())?),
     }

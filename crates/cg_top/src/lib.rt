@@ -2,6 +2,7 @@
 #![tactic(auto)]
 
 mod asking;
+mod decoding;
 mod image;
 mod laws;
 mod loading;

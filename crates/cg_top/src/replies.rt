@@ -9,11 +9,11 @@ ghost use Rattle.cg_top.specs.Answer.{Answer, IsReply, IsReplyTo};
 ghost use Rattle.cg_top.specs.Own.{seen_own};
 
 use crate::asking::{Asked, Command, ask_of};
+use crate::decoding::decoded;
 use crate::image::assembled;
 use crate::loading::load;
 use crate::own::{Own, fetch_own};
 use cg_base::{Forms, List, NoMemory, Refusal, Stop, Text, decimal};
-use cg_decode::decode;
 use cg_gather::{Fetched, fetch};
 use cg_io::Files;
 use cg_model::Machine;
@@ -163,7 +163,7 @@ fn perform(
     accepted_is_sound(machine);
     match command {
         Command::Check => one_line(alloc, 0, ok_line(alloc, machine.insns.len() as u64)?),
-        Command::Decode(bytes) => one_line(alloc, 0, decode(alloc, machine, bytes.as_slice())?),
+        Command::Decode(bytes) => one_line(alloc, 0, decoded(alloc, machine, bytes.as_slice())?),
         Command::Assemble(it) => assembled(alloc, machine, it, own),
     }
 }
