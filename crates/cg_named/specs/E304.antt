@@ -1,5 +1,5 @@
 -- E304: a name stands for something of another kind than its place takes; what `extern-keyword` names has a word that is none of
--- hardware's; or literals that meet, where a choice is put in, are no literal.
+-- hardware's; or, where a choice is put in, literals that meet are no literal, or an expression has a wrong shape.
 use Rattle.std.specs.Prelude.{ℕ, Bool, true, false, ◌&&◌, if◌then◌else◌, List, [], ◌++◌, Option, Some, None}
 use Rattle.std.specs.List.{flat_map}
 use Rattle.std.specs.Option.{option_map}
@@ -31,7 +31,8 @@ use Rattle.cg_expressions.specs.Expressions.{expressions}
 use Rattle.cg_expressions.specs.Judging.{Says, of_expressions}
 use Rattle.cg_named.specs.Names.{placed_names, of_names}
 use Rattle.cg_named.specs.MacroNames.{macro_names, of_macro}
-use Rattle.cg_named.specs.Words.{of_words, of_literals}
+use Rattle.cg_named.specs.Words.{of_words}
+use Rattle.cg_named.specs.Shapes.{of_choices}
 
 -- A derived operand stands in an expression, where no choice puts it in.
 abbrev pub is_derived_kind : Kind → Bool
@@ -50,7 +51,8 @@ unfoldable pub of_another_kind : Table → Machine → Says
 of_another_kind at m x (stands.Node o mode n) = if asks_meaning x.asking.asked then option_map (fault_said m []) (first (no_cell_at m o mode n)) else None
 of_another_kind at m x what = of_symbol at x.asking.asked (no_operand what)
 
--- Of a clause of the form of this number: what stands in its expressions, its names, each where it stands, and its words and literals.
+-- Of a clause of the form of this number: what stands in its expressions, its names, each where it stands, its words, and what is wrong
+-- once choices are put in.
 abbrev pub is_selected : Described → ℕ → Bool
 is_selected d form = gives_isa d.selection.at d.selection.isa form
 
@@ -60,7 +62,7 @@ all_of d scope m form ws e c =
     ++ of_names (is_of_another_kind d.selection.at) (placed_names (is_selected d form) (kind_of e) c)
     ++ of_words d.selection e c
     ++ of_macro is_other (macro_names d e c.name)
-    ++ of_literals ws c.name
+    ++ of_choices ws c.name
 
 abbrev pub in_clause : Described → Scope → Machine → ℕ → List Written → Element → Clause → List Saying
 in_clause d scope m form ws e c = earliest_said (all_of d scope m form ws e c)

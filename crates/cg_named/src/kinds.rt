@@ -16,7 +16,8 @@ ghost use Rattle.cg_selected.specs.Seen.{base};
 
 use crate::macros::put_of_macro;
 use crate::names::{NameRule, put_of_names};
-use crate::words::{put_of_literals, put_of_words};
+use crate::shapes::put_of_choices;
+use crate::words::put_of_words;
 use cg_attrs::Clause;
 use cg_base::{List, Mode, NoMemory, Text};
 use cg_described::Described;
@@ -159,7 +160,7 @@ fn first_in_clause(
     put_of_names(alloc, &rule, &mut list, selected, of.element.kind(), clause)?;
     put_of_words(alloc, &mut list, &described.selection, of.element, clause)?;
     put_of_macro(alloc, &rule, &mut list, described, of.element, clause.name)?;
-    put_of_literals(alloc, &mut list, of.insns, clause.name)?;
+    put_of_choices(alloc, &mut list, of.insns, clause.name)?;
     earliest_said(&list)
 }
 
@@ -183,8 +184,9 @@ fn first_in_clauses(
 }
 
 /// What is said of the first E304 of a form: a name stands for something of another kind than its place
-/// takes, a word of a keyword is none of hardware's, or literals that meet are no literal. Of a clause it is
-/// the earliest. None exactly where there is none (docs/REFUSALS.md).
+/// takes, a word of a keyword is none of hardware's, or, with choices put in, literals that meet are no
+/// literal or an expression has a wrong shape. Of a clause it is the earliest. None exactly where there is
+/// none (docs/REFUSALS.md).
 pub fn first_of_another_kind(
     alloc: Global,
     scope: &mut Scope,

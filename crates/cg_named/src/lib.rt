@@ -6,6 +6,7 @@ mod kinds;
 mod macros;
 mod missing;
 mod names;
+mod shapes;
 mod words;
 
 pub use kinds::first_of_another_kind;
