@@ -8,7 +8,7 @@ use Rattle.cg_io.specs.Held.{Held}
 use Rattle.cg_top.specs.declared.asking.Asked.{Asked}
 use Rattle.cg_top.specs.declared.asking.Command.{Command}
 use Rattle.cg_top.specs.declared.asking.Assembly.{Assembly}
-use Rattle.cg_top.specs.declared.asking.Command.TheVariants.{Check, Decode, Assemble}
+use Rattle.cg_top.specs.declared.asking.Command.TheVariants.{Check, Decode, Assemble, ListImage}
 use Rattle.cg_gather.specs.declared.gathering.Fetched.{Fetched}
 use Rattle.cg_gather.specs.declared.gathering.Fetched.TheVariants.{Read, Refused, Unread}
 use Rattle.cg_model.specs.Imaging.{SourceRefusal, image}
@@ -73,6 +73,7 @@ performed_status it names own (Ok machine) e = command it.command e where
   command Check e = cc
   command (Decode bytes) e = cc
   command (Assemble x) e = assembled_status x (image (only_set machine) x.base own) e
+  command (ListImage x) e = cc
 performed_status it names own (Err refusal) e = cc
 
 -- what can't be read, where the status is 3

@@ -5,3 +5,4 @@ pub mod Loaded
 pub mod AnswerLemmas
 pub mod CarryLemmas
 pub mod SomeReading
+pub mod LineLemmas

@@ -3,9 +3,9 @@ use Rattle.std.specs.Prelude.{ℕ, ◌+◌, ◌-◌, ◌*◌, ◌&&◌, nat_le, 
 use Rattle.cg_base.specs.Parts.{◌>>=◌}
 use Rattle.cg_base.specs.Numerals.{number_written}
 use Rattle.cg_base.specs.Texts.{same_text}
-use Rattle.cg_gather.specs.Shape.{two, three}
+use Rattle.cg_gather.specs.Shape.{two, three, four}
 use Rattle.cg_top.specs.declared.asking.Asked.{Asked}
-use Rattle.cg_top.specs.declared.asking.Command.TheVariants.{Check, Decode, Assemble}
+use Rattle.cg_top.specs.declared.asking.Command.TheVariants.{Check, Decode, Assemble, ListImage}
 
 -- The number that a hexadecimal digit stands for.
 abbrev pub digit_of : ℕ → Option ℕ
@@ -50,11 +50,19 @@ asm_asked words = do
   base ← number_written x.3
   Some (record { desc = x.0; mach = x.1; command = Assemble (record { source = x.2; base = base; image = x.4 }) })
 
+-- What `DESC MACH IMAGE BASE` ask behind `list`.
+unfoldable pub list_asked : List (List ℕ) → Option Asked
+list_asked words = do
+  x ← four words
+  base ← number_written x.3
+  Some (record { desc = x.0; mach = x.1; command = ListImage (record { image = x.2; base = base }) })
+
 abbrev pub asked_by : List ℕ → List (List ℕ) → Option Asked
 asked_by command words =
     if same_text command (codes "decode") then decode_asked words
     else if same_text command (codes "check") then check_asked words
     else if same_text command (codes "asm") then asm_asked words
+    else if same_text command (codes "list") then list_asked words
     else None
 
 -- What the words ask: the first is the command.

@@ -1,4 +1,5 @@
 pub mod Asking
+pub mod Lines
 pub mod Loading
 pub mod Own
 pub mod Replies

@@ -6,15 +6,16 @@ use Rattle.cg_gather.specs.declared.gathering.Fetched.TheVariants.{Read, Refused
 use Rattle.cg_io.specs.Asking.{Asking}
 use Rattle.cg_io.specs.Held.{Held, HasBytes, Lacks, HasMore}
 use Rattle.cg_top.specs.declared.asking.Command.{Command}
-use Rattle.cg_top.specs.declared.asking.Command.TheVariants.{Check, Decode, Assemble}
+use Rattle.cg_top.specs.declared.asking.Command.TheVariants.{Check, Decode, Assemble, ListImage}
 use Rattle.cg_top.specs.declared.own.Own as declared
 use Rattle.cg_top.specs.declared.own.Own.TheVariants as own
 
--- Its name and the most bytes that it may have, where the command has one. A source has at most 4 MiB.
+-- Its name and the most bytes that it may have, where the command has one. A source has at most 4 MiB, and an image 1 MiB.
 abbrev pub own_asking : Command → Option Asking
 own_asking Check = None
 own_asking (Decode bytes) = None
 own_asking (Assemble it) = Some (it.source, 4194304)
+own_asking (ListImage it) = Some (it.image, 1048576)
 
 -- The same, where the description was read.
 abbrev pub own_file : Command → Fetched → Option Asking

@@ -7,15 +7,19 @@ use Rattle.cg_base.specs.declared.refusal.Refusal.{Refusal}
 use Rattle.cg_top.specs.declared.asking.Asked.{Asked}
 use Rattle.cg_top.specs.declared.asking.Command.{Command}
 use Rattle.cg_top.specs.declared.asking.Assembly.{Assembly}
-use Rattle.cg_top.specs.declared.asking.Command.TheVariants.{Check, Decode, Assemble}
+use Rattle.cg_top.specs.declared.asking.Listing.{Listing}
+use Rattle.cg_top.specs.declared.asking.Command.TheVariants.{Check, Decode, Assemble, ListImage}
 use Rattle.cg_gather.specs.declared.gathering.Fetched.{Fetched}
 use Rattle.cg_gather.specs.declared.gathering.Fetched.TheVariants.{Read, Refused, Unread}
 use Rattle.cg_decode.specs.Lines.{decoded_line}
 use Rattle.cg_desc.specs.Answering.{as_stop}
+use Rattle.cg_model.specs.Clashing.{decoded_to}
 use Rattle.cg_model.specs.Imaging.{SourceRefusal, image}
+use Rattle.cg_model.specs.Listing.{listing}
 use Rattle.cg_model.specs.Sourcing.{only_set}
 use Rattle.cg_model.specs.declared.machine.Machine.{Machine}
 use Rattle.cg_top.specs.declared.replies.Reply.{Reply}
+use Rattle.cg_top.specs.Lines.{lines_of}
 use Rattle.cg_top.specs.Loading.{Loads}
 
 abbrev pub reply : ℕ → List (List ℕ) → Reply
@@ -73,11 +77,16 @@ abbrev pub assembled : Assembly → Result (List ℕ) SourceRefusal → Reply
 assembled it (Ok bytes) = record { status = 0; lines = image_line (length bytes) ∷ []; file = Some (record { name = it.image; bytes = bytes }) }
 assembled it (Err refusal) = reply 1 (refusal_line it.source (source_refusal refusal) ∷ [])
 
+-- A listing is told line by line.
+abbrev pub listed : Listing → Machine → List ℕ → Reply
+listed it machine bytes = reply 0 (lines_of (listing machine (decoded_to machine) it.base bytes))
+
 -- What a command does with its machine and the bytes of its own file.
 abbrev pub performed : Command → Machine → List ℕ → Reply
 performed Check machine own = reply 0 (count_line (length machine.insns) ∷ [])
 performed (Decode bytes) machine own = reply 0 (decoded_line machine bytes ∷ [])
 performed (Assemble it) machine own = assembled it (image (only_set machine) it.base own)
+performed (ListImage it) machine own = listed it machine own
 
 abbrev pub performed_on : Asked → List (List ℕ) → List ℕ → Result Machine Refusal → Reply
 performed_on asked names own (Ok machine) = performed asked.command machine own

@@ -1,6 +1,6 @@
 ghost use Rattle.std.specs.Prelude.{◌≡◌, ◌<◌, IfOk, IfSome};
 ghost use Rattle.std.specs.Option.{option_map};
-ghost use Rattle.cg_top.specs.Asking.{digit_of, bytes_of, hex_bytes, decode_asked, check_asked, asm_asked, asked, five};
+ghost use Rattle.cg_top.specs.Asking.{digit_of, bytes_of, hex_bytes, decode_asked, check_asked, asm_asked, list_asked, asked, five};
 
 use cg_base::{NoMemory, Text, read_number};
 use cg_gather::{four, three, two};
@@ -15,6 +15,8 @@ pub enum Command {
     Decode(Text),
     /// The image of a source, which is written to a file.
     Assemble(Assembly),
+    /// The listing of an image.
+    ListImage(Listing),
 }
 
 /// An image that is asked for.
@@ -26,6 +28,15 @@ pub struct Assembly {
     pub base: u64,
     /// The name of the file that the image is written to.
     pub image: Text,
+}
+
+/// A listing that is asked for.
+#[derive(Debug, Drop)]
+pub struct Listing {
+    /// The name of the image's file.
+    pub image: Text,
+    /// The address of the image's first byte.
+    pub base: u64,
 }
 
 /// What the words of a command ask (docs/RUNNING.md, "Commands").
@@ -52,6 +63,8 @@ pub fn ask_of(alloc: Global, words: &[Text]) -> Result<Option<Asked>, NoMemory>
         Ok(check_asked(rest)?)
     } else if command.as_slice() == b"asm".as_slice() {
         Ok(asm_asked(rest)?)
+    } else if command.as_slice() == b"list".as_slice() {
+        Ok(list_asked(rest)?)
     } else {
         Ok(None)
     }
@@ -108,6 +121,27 @@ fn asm_asked(words: &[Text]) -> Result<Option<Asked>, NoMemory>
             source: source.clone()?,
             base,
             image: image.clone()?,
+        }),
+    }))
+}
+
+/// What `DESC MACH IMAGE BASE` ask behind `list`.
+#[tactic(auto, unfolding(crate::specs::Asking::list_asked))]
+fn list_asked(words: &[Text]) -> Result<Option<Asked>, NoMemory>
+    ensures { IfOk result (λ answer. answer ≡ list_asked words.now) }
+{
+    let Some((desc, mach, image, base)) = four(words) else {
+        return Ok(None);
+    };
+    let Some(base) = read_number(base.as_slice()) else {
+        return Ok(None);
+    };
+    Ok(Some(Asked {
+        desc: desc.clone()?,
+        mach: mach.clone()?,
+        command: Command::ListImage(Listing {
+            image: image.clone()?,
+            base,
         }),
     }))
 }

@@ -5,10 +5,12 @@ mod asking;
 mod decoding;
 mod image;
 mod laws;
+mod lines;
+mod listing;
 mod loading;
 mod own;
 mod replies;
 mod top;
 
-pub use laws::{one_answer, some_answer};
+pub use laws::{one_answer, printed_listings_give_back, some_answer};
 pub use top::cgen;

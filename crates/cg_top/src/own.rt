@@ -13,6 +13,9 @@ use std::alloc::Global;
 /// The most bytes that a source may have.
 const SOURCE_LIMIT: u64 = 4_194_304;
 
+/// The most bytes that an image may have.
+const IMAGE_LIMIT: u64 = 1_048_576;
+
 /// What came of reading the file that a command reads besides the description.
 #[derive(Debug, Drop)]
 pub enum Own {
@@ -39,6 +42,10 @@ fn own_file<'a>(command: &'a Command, fetched: &Fetched) -> Option<OwnFile<'a>>
         (Command::Assemble(it), Fetched::Read(_, _)) => Some(OwnFile {
             name: &it.source,
             limit: SOURCE_LIMIT,
+        }),
+        (Command::ListImage(it), Fetched::Read(_, _)) => Some(OwnFile {
+            name: &it.image,
+            limit: IMAGE_LIMIT,
         }),
         _ => None,
     }

@@ -11,6 +11,7 @@ ghost use Rattle.cg_top.specs.Own.{seen_own};
 use crate::asking::{Asked, Command, ask_of};
 use crate::decoding::decoded;
 use crate::image::assembled;
+use crate::listing::listed;
 use crate::loading::load;
 use crate::own::{Own, fetch_own};
 use cg_base::{Forms, List, NoMemory, Refusal, Stop, Text, decimal};
@@ -165,6 +166,7 @@ fn perform(
         Command::Check => one_line(alloc, 0, ok_line(alloc, machine.insns.len() as u64)?),
         Command::Decode(bytes) => one_line(alloc, 0, decoded(alloc, machine, bytes.as_slice())?),
         Command::Assemble(it) => assembled(alloc, machine, it, own),
+        Command::ListImage(it) => listed(alloc, machine, it, own),
     }
 }
 
