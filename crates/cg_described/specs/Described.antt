@@ -2,6 +2,7 @@
 use Rattle.std.specs.Prelude.{ℕ, List, map, ◌++◌, Option, None}
 use Rattle.cg_base.specs.declared.form.Form.{Form}
 use Rattle.cg_base.specs.declared.mode.Mode.{Mode}
+use Rattle.cg_attrs.specs.declared.frame.ModelForm.{ModelForm}
 use Rattle.cg_model.specs.declared.field.Field.{Field}
 use Rattle.cg_model.specs.declared.field.Multi.{Multi}
 use Rattle.cg_model.specs.declared.hardware.Hardware.{Hardware}
@@ -21,14 +22,16 @@ use Rattle.cg_data.specs.Extents.{fields_of}
 use Rattle.cg_data.specs.Multis.{multis_of}
 use Rattle.cg_data.specs.Hardware.{hardware_list}
 use Rattle.cg_data.specs.Operands.{operands_of, constants}
+use Rattle.cg_timing.specs.Timing.{first_model}
 use Rattle.cg_described.specs.Bare.{bare_names, bare_operand}
 use Rattle.cg_described.specs.Texts.{all_texts}
 
--- What a machine is selected from; what its frames say; the numbers of names, those of operands apart; the instructions as they are
--- written; fields, multi fields and hardware without their rules; and all operands.
+-- What a machine is selected from; what its frames say; its first model; the numbers of names, those of operands apart; the instructions
+-- as they are written; fields, multi fields and hardware without their rules; and all operands.
 pub record Described : Type 0 where
   pub selection : Selection
   pub framing : Framing
+  pub model : Option ModelForm
   pub numbers : Numbers
   pub operand_numbers : Numbering
   pub written : List Written
@@ -78,6 +81,7 @@ abbrev pub described_by : Selection → Framing → Numbers → List Written →
 described_by s b n ws = record {
   selection = s;
   framing = b;
+  model = first_model s;
   numbers = n;
   operand_numbers = operand_numbering s ws;
   written = ws;

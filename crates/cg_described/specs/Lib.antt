@@ -3,3 +3,4 @@ pub mod Bare
 pub mod Texts
 pub mod Described
 pub mod Seen
+pub mod ByForm

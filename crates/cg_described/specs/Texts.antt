@@ -61,13 +61,21 @@ is_of_form form w = w.form == form
 abbrev pub of_form : ℕ → List Written → List Written
 of_form form ws = filter (is_of_form form) ws
 
-unfoldable pub texts_at : Selection → List Written → ℕ → Element → Form → List (List ℕ)
-texts_at s ws form e f = if takes_part_in s e then texts_by_kind (kind_of e) f (of_form form ws) else []
+-- The instructions of each form, by its number.
+abbrev pub Insns : Type 0
+Insns = ℕ → List Written
+
+abbrev pub by_form : List Written → Insns
+by_form ws = λ form. of_form form ws
+
+-- Those of a form that gives this element and becomes these instructions, where it takes part.
+unfoldable pub texts_with : Selection → Element → Form → List Written → List (List ℕ)
+texts_with s e f ws = if takes_part_in s e then texts_by_kind (kind_of e) f ws else []
 
 -- Those of these forms, numbered from `form` on.
-abbrev pub texts_from : Selection → List Written → ℕ → List Element → List Form → List (List ℕ)
-texts_from s ws form (e ∷ es) (f ∷ fs) = texts_at s ws form e f ++ texts_from s ws (form + 1) es fs
-texts_from s ws form _ _ = []
+abbrev pub texts_from : Selection → Insns → ℕ → List Element → List Form → List (List ℕ)
+texts_from s insns form (e ∷ es) (f ∷ fs) = texts_with s e f (insns form) ++ texts_from s insns (form + 1) es fs
+texts_from s insns form _ _ = []
 
 abbrev pub all_texts : Selection → List Form → List Written → List (List ℕ)
-all_texts s fs ws = distinct (texts_from s ws 1 s.elements fs)
+all_texts s fs ws = distinct (texts_from s (by_form ws) 1 s.elements fs)

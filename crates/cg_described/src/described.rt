@@ -8,6 +8,7 @@ ghost use Rattle.cg_described.specs.Seen.{forms_of, seen_described};
 
 use crate::bare::{bare_names, bare_operand};
 use crate::texts::error_texts;
+use cg_attrs::ModelForm;
 use cg_base::{List, NoMemory, Text, Top};
 use cg_choices::Written;
 use cg_data::{
@@ -18,6 +19,7 @@ use cg_expanded::expanded;
 use cg_known::Item;
 use cg_model::{Field, Hardware, Multi, Operand};
 use cg_names::{EnumValue, Rule, Scope};
+use cg_timing::first_model;
 use std::alloc::Global;
 
 /// What a description says of a machine before its expressions are read: all that their names stand for.
@@ -27,6 +29,8 @@ pub struct Described<'a> {
     pub selection: Selection<'a>,
     /// What its frames say.
     pub framing: Framing,
+    /// Its first model, by which its instructions take their time.
+    pub model: Option<&'a ModelForm>,
     /// The numbers of fields, multi fields and hardware.
     pub numbers: Numbers,
     /// The numbers of operands: those that have forms of their own, and then those that bare fields stand
@@ -183,9 +187,11 @@ fn described_by<'a>(
     let (known, all) = (fields.as_slice(), written.as_slice());
     let operands = all_operands(alloc, &selection, &numbers, known, multis.as_slice(), all)?;
     let operand_numbers = operand_numbers(alloc, &selection, all)?;
+    let model = first_model(&selection);
     Ok(Described {
         selection,
         framing,
+        model,
         numbers,
         operand_numbers,
         written,

@@ -3,11 +3,13 @@
 #![tactic(auto)]
 
 mod bare;
+mod by_form;
 mod described;
 mod once;
 mod texts;
 
 pub use bare::{all_bare, bare_names, bare_operand};
+pub use by_form::ByForm;
 pub use described::{Described, append, describe, scope_of};
 pub use once::distinct;
-pub use texts::{error_texts, texts_at};
+pub use texts::{error_texts, texts_with};

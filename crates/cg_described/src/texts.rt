@@ -7,8 +7,10 @@ ghost use Rattle.cg_attrs.specs.Clauses.{seen_clause};
 ghost use Rattle.cg_data.specs.Seen.{seen};
 ghost use Rattle.cg_element.specs.declared.kind.Kind.TheVariants as kind;
 ghost use Rattle.cg_described.specs.Texts as spec;
-ghost use Rattle.cg_described.specs.Seen.{forms_of};
+ghost use Rattle.cg_described.specs.ByForm.{seen_by_form};
+ghost use Rattle.cg_described.specs.Seen.{all_lent, forms_of};
 
+use crate::by_form::ByForm;
 use crate::once::distinct;
 use cg_attrs::Clause;
 use cg_base::{Form, List, NoMemory, Text, Top};
@@ -109,71 +111,88 @@ fn put_hardware(alloc: Global, list: &mut List<Text>, form: &Form) -> Result<(),
     put_clauses(list, &clauses)
 }
 
-/// Puts the texts of what the instructions of a form do at the end.
-fn put_insns(list: &mut List<Text>, written: &[Written], form: usize) -> Result<(), NoMemory>
-    ensures { OnOk result (list.new ≡ list.old ++ flat_map spec.texts_of_insn (spec.of_form form written.now)) }
+/// Puts the texts of what instructions do at the end.
+fn put_insns(list: &mut List<Text>, insns: &[&Written]) -> Result<(), NoMemory>
+    ensures { OnOk result (list.new ≡ list.old ++ flat_map spec.texts_of_insn (all_lent insns.now)) }
 {
-    for each in written {
-        if each.form == form {
-            put(list, &each.semantics)?;
-        }
+    for written in insns {
+        put(list, &written.semantics)?;
     }
     Ok(())
 }
 
-/// Puts the texts of the form of this number at the end, which gives an element of this kind.
+/// Puts the texts of a form at the end, which gives an element of this kind and becomes these instructions.
 fn put_by_kind(
     alloc: Global,
     list: &mut List<Text>,
-    written: &[Written],
-    number: usize,
     of: Kind,
     form: &Form,
+    insns: &[&Written],
 ) -> Result<(), NoMemory>
-    ensures { OnOk result (list.new ≡ list.old ++ spec.texts_by_kind of form.now (spec.of_form number written.now)) }
+    ensures { OnOk result (list.new ≡ list.old ++ spec.texts_by_kind of form.now (all_lent insns.now)) }
 {
     match of {
         Kind::Hardware => put_hardware(alloc, list, form),
-        Kind::Insn => put_insns(list, written, number),
+        Kind::Insn => put_insns(list, insns),
         _ => Ok(()),
     }
 }
 
-/// Puts the texts of the form of this number at the end, where its element takes part.
-#[tactic(auto, unfolding(crate::specs::Texts::texts_at))]
-fn put_at(
+/// Puts the texts of a form at the end, where its element takes part.
+#[tactic(auto, unfolding(crate::specs::Texts::texts_with))]
+fn put_with(
     alloc: Global,
     list: &mut List<Text>,
     selection: &Selection,
-    written: &[Written],
-    number: usize,
     element: &Element,
     form: &Form,
+    insns: &[&Written],
 ) -> Result<(), NoMemory>
-    ensures { OnOk result (list.new ≡ list.old ++ spec.texts_at (seen selection.now) written.now number element.now form.now) }
+    ensures { OnOk result (list.new ≡ list.old ++ spec.texts_with (seen selection.now) element.now form.now (all_lent insns.now)) }
 {
     if selection.takes_part(element) {
-        put_by_kind(alloc, list, written, number, element.kind(), form)
+        put_by_kind(alloc, list, element.kind(), form, insns)
     } else {
         Ok(())
     }
 }
 
-/// The texts of the form of this number, which gives this element: those of get and set rules, and of
-/// what the form's instructions do. None where the element doesn't take part.
-pub fn texts_at(
+/// The texts of a form that gives this element and becomes these instructions: those of get and set rules,
+/// and of what the instructions do. None where the element doesn't take part.
+pub fn texts_with(
     alloc: Global,
     selection: &Selection,
-    written: &[Written],
+    element: &Element,
+    form: &Form,
+    insns: &[&Written],
+) -> Result<List<Text>, NoMemory>
+    ensures { IfOk result (λ list. list ≡ spec.texts_with (seen selection.now) element.now form.now (all_lent insns.now)) }
+{
+    let mut list = List::new(alloc);
+    put_with(alloc, &mut list, selection, element, form, insns)?;
+    Ok(list)
+}
+
+/// Puts the texts of the form of this number at the end.
+fn put_at(
+    alloc: Global,
+    list: &mut List<Text>,
+    selection: &Selection,
+    by_form: &ByForm,
     number: usize,
     element: &Element,
     form: &Form,
-) -> Result<List<Text>, NoMemory>
-    ensures { IfOk result (λ list. list ≡ spec.texts_at (seen selection.now) written.now number element.now form.now) }
+) -> Result<(), NoMemory>
+    ensures { OnOk result (list.new ≡ list.old ++ spec.texts_with (seen selection.now) element.now form.now (seen_by_form by_form.now number)) }
 {
-    let mut list = List::new(alloc);
-    put_at(alloc, &mut list, selection, written, number, element, form)?;
-    Ok(list)
+    put_with(
+        alloc,
+        list,
+        selection,
+        element,
+        form,
+        by_form.get_or(number, &[]),
+    )
 }
 
 /// The texts of all forms, in order.
@@ -182,9 +201,9 @@ fn texts_of_all(
     selection: &Selection,
     elements: &[Element],
     tops: &[Top],
-    written: &[Written],
+    by_form: &ByForm,
 ) -> Result<List<Text>, NoMemory>
-    ensures { IfOk result (λ list. list ≡ spec.texts_from (seen selection.now) written.now 1 elements.now (forms_of tops.now)) }
+    ensures { IfOk result (λ list. list ≡ spec.texts_from (seen selection.now) (seen_by_form by_form.now) 1 elements.now (forms_of tops.now)) }
 {
     let mut list = List::new(alloc);
     let mut rest = tops;
@@ -196,7 +215,7 @@ fn texts_of_all(
                     alloc,
                     &mut list,
                     selection,
-                    written,
+                    by_form,
                     place + 1,
                     element,
                     form,
@@ -219,6 +238,7 @@ pub fn error_texts(
 ) -> Result<List<Text>, NoMemory>
     ensures { IfOk result (λ list. list ≡ spec.all_texts (seen selection.now) (forms_of tops.now) written.now) }
 {
-    let all = texts_of_all(alloc, selection, selection.elements, tops, written)?;
+    let by_form = ByForm::of(alloc, written)?;
+    let all = texts_of_all(alloc, selection, selection.elements, tops, &by_form)?;
     distinct(alloc, all.as_slice())
 }

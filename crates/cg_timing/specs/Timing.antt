@@ -75,5 +75,6 @@ abbrev pub cycles_for : Option ModelForm → Option Form → ℕ
 cycles_for None timing = 1
 cycles_for (Some m) timing = cycles_by (units_of m) (timed_units m.name timing)
 
-abbrev pub cycles_of : Selection → InstructionForm → ℕ
-cycles_of s form = cycles_for (first_model s) form.timing
+-- How long the instruction of a form takes by a machine's first model.
+abbrev pub cycles_of : Option ModelForm → InstructionForm → ℕ
+cycles_of model form = cycles_for model form.timing

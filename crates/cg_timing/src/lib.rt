@@ -3,4 +3,4 @@
 
 mod timing;
 
-pub use timing::cycles_of;
+pub use timing::{cycles_of, first_model};

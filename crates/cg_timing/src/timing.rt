@@ -34,8 +34,9 @@ fn model_in<'a>(machine: &Text, element: &'a Element) -> Option<&'a ModelForm>
     }
 }
 
-/// The machine's first model.
-fn first_model<'a>(selection: &Selection<'a>) -> Option<&'a ModelForm>
+/// The first model of the machine, by whose units its instructions take their time (docs/LANGUAGE.md,
+/// "Instructions"). None exactly where it has none.
+pub fn first_model<'a>(selection: &Selection<'a>) -> Option<&'a ModelForm>
     ensures { option_copied result ≡ spec.first_model (seen selection.now) }
 {
     for element in selection.elements {
@@ -234,16 +235,16 @@ fn cycles_for(alloc: Global, model: &ModelForm, timing: Option<&Form>) -> Result
     Ok(cycles_by(&units, &entries))
 }
 
-/// How long an instruction takes: the sum over the units that `timing` names for the machine's first
-/// model, and 1 where it names none (docs/LANGUAGE.md, "Instructions").
+/// How long an instruction takes by a machine's first model: the sum over the units that `timing` names for
+/// it, and 1 where it names none or there is no model (docs/LANGUAGE.md, "Instructions").
 pub fn cycles_of(
     alloc: Global,
-    selection: &Selection,
+    model: Option<&ModelForm>,
     form: &InstructionForm,
 ) -> Result<u128, NoMemory>
-    ensures { IfOk result (λ cycles. cycles ≡ spec.cycles_of (seen selection.now) form.now) }
+    ensures { IfOk result (λ cycles. cycles ≡ spec.cycles_of (option_copied model.entry) form.now) }
 {
-    match first_model(selection) {
+    match model {
         Some(model) => cycles_for(alloc, model, form.timing.as_ref()),
         None => Ok(1),
     }
