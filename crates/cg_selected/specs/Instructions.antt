@@ -126,7 +126,7 @@ insn_by d scope w form = record {
   parts = parts_of d w;
   assertion = assertion_of scope (all_assertions w);
   decodable = is_decodable form;
-  cycles = kept_cycles (cycles_of d.selection form);
+  cycles = kept_cycles (cycles_of d.model form);
   semantics = rtl_of scope w.semantics;
 }
 

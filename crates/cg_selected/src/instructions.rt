@@ -263,7 +263,7 @@ pub fn insn_by(
         parts: parts_of(alloc, described, written)?,
         assertion,
         decodable: is_decodable(form),
-        cycles: counted(cycles_of(alloc, &described.selection, form)?),
+        cycles: counted(cycles_of(alloc, described.model, form)?),
         semantics,
     })
 }

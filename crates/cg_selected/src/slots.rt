@@ -5,6 +5,7 @@ ghost use Rattle.std.specs.Option.{option_copied};
 ghost use Rattle.std.specs.List.{filter_map};
 ghost use Rattle.cg_base.specs.Texts.{is_among};
 ghost use Rattle.cg_model.specs.faults.E306.{lies_in_fields};
+ghost use Rattle.cg_expanded.specs.Choices.{slot_name};
 ghost use Rattle.cg_names.specs.Names.{place_of};
 ghost use Rattle.cg_data.specs.Seen.{seen_numbering};
 ghost use Rattle.cg_described.specs.Seen.{seen_described};
@@ -45,11 +46,25 @@ fn has_no_field(numbers: &Numbering, operands: &[Operand], name: &Text) -> bool
     }
 }
 
-/// Whether a slot of the syntax is one of the format behind these.
-fn is_behind(numbers: &Numbering, operands: &[Operand], slots: &[Text], name: &Text) -> bool
-    ensures { result ≡ spec.is_behind (seen_numbering numbers.now) operands.now slots.now name.now }
+/// Whether a name is that of a slot among parts.
+fn is_slot(parts: &[WrittenPart], name: &Text) -> bool
+    ensures { result ≡ is_among (filter_map slot_name parts.now) name.now }
 {
-    !is_among(slots, name) && has_no_field(numbers, operands, name)
+    for part in parts {
+        if let NamedPart::Slot(slot) = &part.part {
+            if slot == name {
+                return true;
+            }
+        }
+    }
+    false
+}
+
+/// Whether a slot of the syntax is one of the format behind those among these parts.
+fn is_behind(numbers: &Numbering, operands: &[Operand], parts: &[WrittenPart], name: &Text) -> bool
+    ensures { result ≡ spec.is_behind (seen_numbering numbers.now) operands.now (filter_map slot_name parts.now) name.now }
+{
+    !is_slot(parts, name) && has_no_field(numbers, operands, name)
 }
 
 /// The names of the slots among parts.
@@ -70,15 +85,15 @@ fn all_behind(
     alloc: Global,
     numbers: &Numbering,
     operands: &[Operand],
-    slots: &[Text],
+    parts: &[WrittenPart],
     pieces: &[WrittenPiece],
 ) -> Result<List<Text>, NoMemory>
-    ensures { IfOk result (λ list. list ≡ filter (spec.is_behind (seen_numbering numbers.now) operands.now slots.now) (filter_map spec.slot_of pieces.now)) }
+    ensures { IfOk result (λ list. list ≡ filter (spec.is_behind (seen_numbering numbers.now) operands.now (filter_map slot_name parts.now)) (filter_map spec.slot_of pieces.now)) }
 {
     let mut list = List::new(alloc);
     for piece in pieces {
         if let NamedPiece::Slot(name) = &piece.piece {
-            if is_behind(numbers, operands, slots, name) {
+            if is_behind(numbers, operands, parts, name) {
                 list.push(name.clone()?)?;
             }
         }
@@ -94,12 +109,11 @@ pub(crate) fn slots_behind(
 ) -> Result<List<Text>, NoMemory>
     ensures { IfOk result (λ list. list ≡ spec.behind_format (seen_described described.now) written.now) }
 {
-    let slots = format_slots(alloc, written)?;
     let all = all_behind(
         alloc,
         &described.operand_numbers,
         described.operands.as_slice(),
-        slots.as_slice(),
+        written.parts.as_slice(),
         written.pieces.as_slice(),
     )?;
     distinct(alloc, all.as_slice())
