@@ -1,20 +1,13 @@
 -- A form of a description with what it gives, as definitions see it.
-use Rattle.std.specs.Prelude.{ℕ, List, map}
-use Rattle.std.specs.Borrow.{Bor}
+use Rattle.std.specs.Prelude.{ℕ, List}
 use Rattle.cg_base.specs.declared.form.Form.{Form}
 use Rattle.cg_element.specs.declared.element.Element.{Element}
 use Rattle.cg_model.specs.declared.machine.Machine.{Machine}
 use Rattle.cg_choices.specs.declared.written.Written.{Written}
 use Rattle.cg_described.specs.Described.{Described}
+pub use Rattle.cg_described.specs.Seen.{lent, all_lent}
 use Rattle.cg_described.specs.Seen.{seen_described}
 use Rattle.cg_said.specs.declared.subject.Subject.{Subject}
-
--- Instructions that are lent.
-abbrev pub lent : Bor Written → Written
-lent w = w.now
-
-abbrev pub all_lent : List (Bor Written) → List Written
-all_lent ws = map lent ws
 
 abbrev pub described_in : Subject → Described
 described_in x = seen_described x.described.now

@@ -1,12 +1,10 @@
 //! What a refusal of a description says, and of which place in a clause (docs/REFUSALS.md).
 #![tactic(auto)]
 
-mod instructions;
 mod saying;
 mod spots;
 mod subject;
 
-pub use instructions::of_form;
 pub use saying::{
     Placed, Saying, earliest_said, fault_said, is_before, joined_place, only_text, put_at,
     put_copies, refusal_of, texts_said,
