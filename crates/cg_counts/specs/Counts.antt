@@ -17,7 +17,7 @@ use Rattle.cg_choices.specs.declared.written.Written.{Written}
 use Rattle.cg_data.specs.Selecting.{takes_part_in}
 use Rattle.cg_data.specs.Hardware.{cells_of}
 use Rattle.cg_described.specs.Bare.{bare_in}
-use Rattle.cg_described.specs.Texts.{texts_at}
+use Rattle.cg_described.specs.Texts.{texts_with}
 use Rattle.cg_described.specs.Described.{Described}
 use Rattle.cg_selected.specs.Rules.{ruled_field, ruled_multi, ruled_hardware}
 use Rattle.cg_selected.specs.Instructions.{insn_of}
@@ -96,17 +96,17 @@ counts_by d scope bare ws _ = none
 abbrev pub counts_with : Described → Scope → ℕ → ℕ → Element → List Written → Counts
 counts_with d scope texts bare e ws = if takes_part_in d.selection e then record (counts_by d scope bare ws e) { texts = texts } else none
 
--- The error texts of the form of this number.
-abbrev pub texts_of : Described → ℕ → Element → Form → List (List ℕ)
-texts_of d form e f = texts_at d.selection d.written form e f
+-- The error texts of a form that gives this element and these instructions.
+abbrev pub texts_of : Described → Element → Form → List Written → List (List ℕ)
+texts_of d e f ws = texts_with d.selection e f ws
 
 -- What it adds, which gives this element and these instructions, behind what stands before it.
 abbrev pub counts_at : Described → Scope → Before → ℕ → Element → Form → List Written → Counts
-counts_at d scope b form e f ws = counts_with d scope (count_new b.texts (texts_of d form e f)) (count_new b.bare (bare_of d ws)) e ws
+counts_at d scope b form e f ws = counts_with d scope (count_new b.texts (texts_of d e f ws)) (count_new b.bare (bare_of d ws)) e ws
 
 -- Its error texts and bare fields stand before the next form, and what it adds is counted.
 abbrev pub with_names : Described → Before → ℕ → Element → Form → List Written → Before
-with_names d b form e f ws = record b { texts = with_all b.texts (texts_of d form e f); bare = with_all b.bare (bare_of d ws) }
+with_names d b form e f ws = record b { texts = with_all b.texts (texts_of d e f ws); bare = with_all b.bare (bare_of d ws) }
 
 abbrev pub with_counts : Before → Counts → Before
 with_counts b own = record b { counts = together b.counts own }

@@ -8,6 +8,7 @@ use Rattle.cg_base.specs.Texts.{same_text}
 use Rattle.cg_attrs.specs.Clauses.{Clause}
 use Rattle.cg_attrs.specs.declared.frame.IsaForm.{IsaForm}
 use Rattle.cg_attrs.specs.declared.frame.MachForm.{MachForm}
+use Rattle.cg_attrs.specs.declared.frame.ModelForm.{ModelForm}
 use Rattle.cg_attrs.specs.declared.frame.Frame.TheVariants as frame
 use Rattle.cg_hw.specs.declared.form.HardwareForm.{HardwareForm}
 use Rattle.cg_operand.specs.declared.form.OperandForm.TheVariants as operand
@@ -87,11 +88,11 @@ kept_texts d form ws (element.Insn (insn.Macro f)) = macro_texts f
 kept_texts d form ws (element.Frame (frame.Mach f)) = mach_texts d form f
 kept_texts d form ws _ = []
 
-abbrev pub error_texts : Described → ℕ → Element → Form → List (List ℕ)
-error_texts d form e f = texts_of d form e f
+abbrev pub error_texts : Described → List Written → Element → Form → List (List ℕ)
+error_texts d ws e f = texts_of d e f ws
 
 abbrev pub all_texts : Described → ℕ → List Written → Element → Form → List (List ℕ)
-all_texts d form ws e f = error_texts d form e f ++ kept_texts d form ws e
+all_texts d form ws e f = error_texts d ws e f ++ kept_texts d form ws e
 
 abbrev pub of_texts : Described → ℕ → List Written → Element → Form → Faults
 of_texts d form ws e f = long_texts (all_texts d form ws e f)
@@ -121,13 +122,13 @@ of_bytes d scope m form w = if d.framing.is_sized then too_many 16 (length_of m 
 abbrev pub of_slots : Described → Scope → Machine → InstructionForm → Written → Faults
 of_slots d scope m form w = too_many 16 (length (slot_names d w)) ++ of_bytes d scope m form w
 
-abbrev pub of_time : Selection → InstructionForm → Faults
-of_time s form = too_many 67107840 (cycles_of s form)
+abbrev pub of_time : Option ModelForm → InstructionForm → Faults
+of_time model form = too_many 67107840 (cycles_of model form)
 
 -- The instructions of a form take equally long.
 abbrev pub of_cycles : Described → InstructionForm → List Written → Faults
 of_cycles d form [] = []
-of_cycles d form (w ∷ ws) = of_time d.selection form
+of_cycles d form (w ∷ ws) = of_time d.model form
 
 abbrev pub of_insn : Described → Scope → Machine → InstructionForm → List Written → List ℕ → Faults
 of_insn d scope m form ws name =

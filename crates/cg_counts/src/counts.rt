@@ -11,7 +11,7 @@ use cg_base::{List, NoMemory, Text};
 use cg_check::{add, field_nodes, hardware_nodes, insn_nodes, multi_nodes};
 use cg_choices::Written;
 use cg_data::cells_of;
-use cg_described::{Described, all_bare, texts_at};
+use cg_described::{Described, all_bare, texts_with};
 use cg_element::Element;
 use cg_hw::HardwareForm;
 use cg_ifield::{FieldForm, MultiForm, PlainForm};
@@ -271,18 +271,10 @@ fn counts_at(
 
 /// The error texts of a form.
 fn texts_of(alloc: Global, of: &Subject) -> Result<List<Text>, NoMemory>
-    ensures { IfOk result (λ list. list ≡ spec.texts_of (described_in of.now) of.now.number (element_in of.now) (form_in of.now)) }
+    ensures { IfOk result (λ list. list ≡ spec.texts_of (described_in of.now) (element_in of.now) (form_in of.now) (insns_in of.now)) }
 {
-    let described = of.described;
-    let written = described.written.as_slice();
-    texts_at(
-        alloc,
-        &described.selection,
-        written,
-        of.number,
-        of.element,
-        &of.top.form,
-    )
+    let selection = &of.described.selection;
+    texts_with(alloc, selection, of.element, &of.top.form, of.insns)
 }
 
 impl Before {

@@ -1,9 +1,10 @@
 //! E303 and E307.
 
-ghost use Rattle.std.specs.Prelude.{◌≡◌, map, IfOk};
+ghost use Rattle.std.specs.Prelude.{◌≡◌, map, not, is_some, IfOk};
 ghost use Rattle.std.specs.List.{flat_map};
 ghost use Rattle.cg_attrs.specs.Clauses.{seen_clause};
 ghost use Rattle.cg_base.specs.Refusing.{first};
+ghost use Rattle.cg_data.specs.Framing.{arch_form};
 ghost use Rattle.cg_data.specs.Seen.{seen};
 ghost use Rattle.cg_counts.specs.Frames as spec;
 
@@ -15,6 +16,13 @@ use cg_references::clauses_of;
 use cg_said::{Saying, only_text};
 use std::alloc::Global;
 
+/// Whether the machine has no arch.
+fn lacks_arch(selection: &Selection) -> bool
+    ensures { result ≡ not (is_some (arch_form (seen selection.now))) }
+{
+    selected_arch(selection.elements, selection.machine).is_none()
+}
+
 /// What is said of E303 of the form of this number: the machine has no arch, at its `define-mach`. None
 /// exactly where there is none (docs/REFUSALS.md).
 pub fn first_lacking(
@@ -24,8 +32,7 @@ pub fn first_lacking(
 ) -> Result<Option<Saying>, NoMemory>
     ensures { IfOk result (λ said. said ≡ first (spec.e303 (seen selection.now) number)) }
 {
-    let lacks = selected_arch(selection.elements, selection.machine).is_none();
-    if number == selection.form && lacks {
+    if number == selection.form && lacks_arch(selection) {
         Ok(Some(only_text(alloc, b"define-arch")?))
     } else {
         Ok(None)

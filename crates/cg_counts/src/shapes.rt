@@ -2,7 +2,7 @@
 
 ghost use Rattle.std.specs.Prelude.{◌≡◌, length, IfOk};
 ghost use Rattle.std.specs.List.{flat_map};
-ghost use Rattle.std.specs.Option.{option_map};
+ghost use Rattle.std.specs.Option.{option_copied, option_map};
 ghost use Rattle.cg_base.specs.Refusing.{first};
 ghost use Rattle.cg_counts.specs.E308 as spec;
 ghost use Rattle.cg_counts.specs.Passing.{seen_passed};
@@ -14,7 +14,7 @@ ghost use Rattle.cg_said.specs.Subject.{described_in, machine_in, insns_in};
 ghost use Rattle.cg_selected.specs.Seen.{base};
 
 use crate::passing::{Found, Passed, passing, too_many};
-use cg_attrs::IsaForm;
+use cg_attrs::{IsaForm, ModelForm};
 use cg_choices::Written;
 use cg_data::{Selection, words};
 use cg_described::Described;
@@ -168,10 +168,10 @@ fn first_of_slots(alloc: Global, scope: &mut Scope, of: &Subject, form: &Instruc
 }
 
 /// Over 67,107,840 cycles of an instruction of this form.
-fn of_cycles(alloc: Global, selection: &Selection, form: &InstructionForm) -> Found
-    ensures { IfOk result (λ found. option_map seen_passed found ≡ first (spec.of_time (seen selection.now) form.now)) }
+fn of_cycles(alloc: Global, model: Option<&ModelForm>, form: &InstructionForm) -> Found
+    ensures { IfOk result (λ found. option_map seen_passed found ≡ first (spec.of_time (option_copied model.entry) form.now)) }
 {
-    Ok(passing(67_107_840, 0, cycles_of(alloc, selection, form)?))
+    Ok(passing(67_107_840, 0, cycles_of(alloc, model, form)?))
 }
 
 /// The same of a form's instructions, which take equally long.
@@ -180,7 +180,7 @@ fn first_of_cycles(alloc: Global, of: &Subject, form: &InstructionForm) -> Found
 {
     match of.insns {
         [] => Ok(None),
-        [_, ..] => of_cycles(alloc, &of.described.selection, form),
+        [_, ..] => of_cycles(alloc, of.described.model, form),
     }
 }
 

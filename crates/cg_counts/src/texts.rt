@@ -16,7 +16,7 @@ use cg_attrs::{Frame, MachForm};
 use cg_base::Text;
 use cg_choices::{Written, WrittenPiece};
 use cg_data::words;
-use cg_described::{Described, texts_at};
+use cg_described::{Described, texts_with};
 use cg_element::Element;
 use cg_expanded::all_pieces;
 use cg_hw::HardwareForm;
@@ -165,19 +165,10 @@ fn first_kept(alloc: Global, of: &Subject) -> Found
 
 /// The first of the error texts of a form.
 fn first_error_text(alloc: Global, of: &Subject) -> Found
-    ensures { IfOk result (λ found. option_map seen_passed found ≡ first (long_texts (spec.error_texts (described_in of.now) of.now.number (element_in of.now) (form_in of.now)))) }
+    ensures { IfOk result (λ found. option_map seen_passed found ≡ first (long_texts (spec.error_texts (described_in of.now) (insns_in of.now) (element_in of.now) (form_in of.now)))) }
 {
-    let described = of.described;
-    let written = described.written.as_slice();
-    let selection = &described.selection;
-    let texts = texts_at(
-        alloc,
-        selection,
-        written,
-        of.number,
-        of.element,
-        &of.top.form,
-    )?;
+    let selection = &of.described.selection;
+    let texts = texts_with(alloc, selection, of.element, &of.top.form, of.insns)?;
     Ok(first_long(texts.as_slice()))
 }
 
