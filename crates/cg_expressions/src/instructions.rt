@@ -5,6 +5,7 @@ ghost use Rattle.std.specs.List.{flat_map};
 ghost use Rattle.cg_attrs.specs.Clauses.{seen_clause};
 ghost use Rattle.cg_said.specs.Subject.{described_in, machine_in, insns_in};
 ghost use Rattle.cg_selected.specs.Seen.{base};
+ghost use Rattle.cg_expressions.specs.declared.asking.Asked.TheVariants.{PutIn};
 ghost use Rattle.cg_expressions.specs.Expressions as spec;
 
 use crate::asking::{Asked, Asking, Expression, Naming, expression_of, plain_asking};
@@ -222,6 +223,23 @@ fn put_of_semantics(
     }
 }
 
+/// Puts an instruction's own assertion at the end as it is written, where these anyof operands may stand in
+/// it, and then those with choices put in.
+fn put_both_assertions(
+    alloc: Global,
+    list: &mut List<Expression>,
+    scope: &Scope,
+    of: &Subject,
+    own: &Text,
+    anyofs: List<Text>,
+    form: &Form,
+) -> Result<(), NoMemory>
+    ensures { OnOk result (list.new ≡ list.old ++ (spec.as_written (machine_in of.now) own.now scope.now anyofs form.now ++ flat_map (spec.own_assertion (described_in of.now) scope.now (machine_in of.now) PutIn) (insns_in of.now))) }
+{
+    put_written(alloc, list, scope, of, own, anyofs, form)?;
+    put_own_assertions(alloc, list, scope, of, Asked::PutIn)
+}
+
 /// Puts the expressions of an instruction's own assertion at the end, in a scope for assertions.
 #[tactic(auto, using(crate::proofs::Choosing::with_none, crate::proofs::Choosing::with_some, crate::proofs::Choosing::with_no_form))]
 fn put_of_assertion(
@@ -238,8 +256,7 @@ fn put_of_assertion(
         put_own_assertions(alloc, list, scope, of, Asked::All)
     } else if let Some(clause) = &form.ifield_assertion {
         let written = expression_in(clause);
-        put_written(alloc, list, scope, of, &form.name, anyofs, written)?;
-        put_own_assertions(alloc, list, scope, of, Asked::PutIn)
+        put_both_assertions(alloc, list, scope, of, &form.name, anyofs, written)
     } else {
         Ok(())
     }
