@@ -2,6 +2,8 @@
 
 ghost use Rattle.std.specs.Prelude.{◌≡◌, IfOk, OnOk};
 ghost use Rattle.cg_counts.specs.Counts.{seen_before, behind};
+ghost use Rattle.cg_described.specs.ByForm.{seen_by_form};
+ghost use Rattle.cg_described.specs.Texts.{by_form};
 ghost use Rattle.cg_described.specs.Seen.{seen_described};
 ghost use Rattle.cg_said.specs.Subject.{described_in, machine_in, element_in, form_in, insns_in};
 ghost use Rattle.cg_selected.specs.Seen.{base};
@@ -11,11 +13,11 @@ use crate::data::least_at;
 use crate::modes::modes_at;
 use cg_base::{NoMemory, Refusal, Top};
 use cg_counts::Before;
-use cg_described::Described;
+use cg_described::{ByForm, Described};
 use cg_element::Element;
 use cg_model::Machine;
 use cg_names::Scope;
-use cg_said::{Saying, Subject, of_form, refusal_of};
+use cg_said::{Saying, Subject, refusal_of};
 use std::alloc::Global;
 
 /// What a description is refused for, or want of memory.
@@ -46,28 +48,30 @@ fn by_data_at(alloc: Global, scope: &mut Scope, of: &Subject, before: &mut Befor
 }
 
 /// The same of the form of this number, which gives this element.
+#[tactic(auto, using(cg_described::proofs::ByForms::insns_of))]
 fn by_data_of<'a>(
     alloc: Global,
     scope: &mut Scope,
     described: &'a Described<'a>,
+    insns: &'a ByForm<'a>,
     machine: &'a Machine,
     before: &mut Before,
     number: usize,
     element: &'a Element,
     top: &'a Top,
 ) -> Answer
+    requires { seen_by_form insns.now ≡ by_form described.now.written }
     ensures value { IfOk result (λ found. found ≡ spec.data_of (seen_described described.now) (base scope.old) machine.now (seen_before before.old) number element.now top.now) }
     ensures now { OnOk result (seen_before before.new ≡ spec.behind_of (seen_described described.now) (base scope.old) (seen_before before.old) number element.now top.now) }
     ensures kept { base scope.new ≡ base scope.old }
 {
-    let insns = of_form(alloc, described.written.as_slice(), number)?;
     let of = Subject {
         described,
         machine,
         number,
         element,
         top,
-        insns: insns.as_slice(),
+        insns: insns.get_or(number, &[]),
     };
     by_data_at(alloc, scope, &of, before)
 }
@@ -77,9 +81,11 @@ fn first_by_data(
     alloc: Global,
     scope: &mut Scope,
     described: &Described,
+    insns: &ByForm,
     machine: &Machine,
     tops: &[Top],
 ) -> Answer
+    requires { seen_by_form insns.now ≡ by_form described.now.written }
     ensures value { IfOk result (λ found. found ≡ spec.by_data (seen_described described.now) (base scope.old) machine.now tops.now) }
     ensures kept { base scope.new ≡ base scope.old }
 {
@@ -94,6 +100,7 @@ fn first_by_data(
                     alloc,
                     scope,
                     &*described,
+                    &*insns,
                     &*machine,
                     &mut before,
                     number,
@@ -112,27 +119,28 @@ fn first_by_data(
 }
 
 /// The refusal of the form of this number by its modes.
-#[tactic(auto, unfolding(crate::specs::Least::by_modes_at))]
+#[tactic(auto, using(cg_described::proofs::ByForms::insns_of), unfolding(crate::specs::Least::by_modes_at))]
 fn by_modes_of<'a>(
     alloc: Global,
     scope: &mut Scope,
     described: &'a Described<'a>,
+    insns: &'a ByForm<'a>,
     machine: &'a Machine,
     number: usize,
     element: &'a Element,
     top: &'a Top,
 ) -> Answer
+    requires { seen_by_form insns.now ≡ by_form described.now.written }
     ensures value { IfOk result (λ found. found ≡ spec.modes_of (seen_described described.now) (base scope.old) machine.now number element.now top.now) }
     ensures kept { base scope.new ≡ base scope.old }
 {
-    let insns = of_form(alloc, described.written.as_slice(), number)?;
     let of = Subject {
         described,
         machine,
         number,
         element,
         top,
-        insns: insns.as_slice(),
+        insns: insns.get_or(number, &[]),
     };
     let found = modes_at(alloc, scope, &of)?;
     Ok(refused(top, found))
@@ -143,9 +151,11 @@ fn first_by_modes(
     alloc: Global,
     scope: &mut Scope,
     described: &Described,
+    insns: &ByForm,
     machine: &Machine,
     tops: &[Top],
 ) -> Answer
+    requires { seen_by_form insns.now ≡ by_form described.now.written }
     ensures value { IfOk result (λ found. found ≡ spec.by_modes (seen_described described.now) (base scope.old) machine.now tops.now) }
     ensures kept { base scope.new ≡ base scope.old }
 {
@@ -159,6 +169,7 @@ fn first_by_modes(
                     alloc,
                     scope,
                     &*described,
+                    &*insns,
                     &*machine,
                     number,
                     element,
@@ -190,8 +201,9 @@ pub fn first_by_elements(
     ensures value { IfOk result (λ found. found ≡ spec.by_elements (seen_described described.now) (base scope.old) machine.now tops.now) }
     ensures kept { base scope.new ≡ base scope.old }
 {
-    if let Some(refusal) = first_by_data(alloc, scope, described, machine, tops)? {
+    let insns = ByForm::of(alloc, described.written.as_slice())?;
+    if let Some(refusal) = first_by_data(alloc, scope, described, &insns, machine, tops)? {
         return Ok(Some(refusal));
     }
-    first_by_modes(alloc, scope, described, machine, tops)
+    first_by_modes(alloc, scope, described, &insns, machine, tops)
 }
