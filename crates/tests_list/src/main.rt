@@ -1,0 +1,80 @@
+//! Prints the listing of an image on a machine made by hand: by the machine's own decision tree, and by that of a
+//! machine that has its first instruction alone.
+#![tactic(auto)]
+
+mod machine;
+
+ghost use Rattle.std.specs.Prelude.{◌≡◌, true};
+ghost use Rattle.cg_model.specs.faults.Accepted.{IsAccepted};
+
+use crate::machine::machine;
+use bumpalo::Bump;
+use cg_accept::check;
+use cg_base::{NoMemory, Text};
+use cg_formed::is_formed;
+use cg_io::{HostSink, Sink};
+use cg_list::list;
+use cg_model::Machine;
+use cg_sound::accepted_is_sound;
+use cg_syntax::{Index, accepted_is_ready};
+use cg_tree::{Tree, build};
+use std::alloc::Global;
+use std::process::ExitCode;
+
+/// The image that is listed.
+static IMAGE: &'static [u8] = b"\x23\x07\x43\x00\x43\x01\x00\x00\x24";
+
+/// Whether a machine is accepted.
+fn is_accepted(alloc: Global, machine: &Machine) -> bool
+    ensures { result ≡ true → IsAccepted machine.now }
+{
+    is_formed(machine) && check(alloc, machine).is_ok()
+}
+
+/// The tree of a machine that is accepted.
+fn tree_of<'a>(alloc: Global, arena: &'a Bump, machine: &Machine) -> Result<Tree<'a>, NoMemory>
+    requires { IsAccepted machine.now }
+{
+    accepted_is_sound(machine);
+    build(alloc, arena, machine)
+}
+
+/// The listing by a tree.
+fn listed(alloc: Global, machine: &Machine, tree: &Tree) -> Result<Text, NoMemory>
+    requires { IsAccepted machine.now }
+{
+    accepted_is_sound(machine);
+    accepted_is_ready(machine);
+    let index = Index::build(alloc, machine)?;
+    list(alloc, machine, &index, tree, 0, IMAGE)
+}
+
+/// The listings by both trees, or None where a machine isn't accepted.
+fn listings(alloc: Global) -> Result<Option<Text>, NoMemory> {
+    let arena = Bump::new(alloc);
+    let own = machine(alloc, 2)?;
+    let other = machine(alloc, 1)?;
+    if !is_accepted(alloc, &own) {
+        return Ok(None);
+    }
+    if !is_accepted(alloc, &other) {
+        return Ok(None);
+    }
+    let tree = tree_of(alloc, &arena, &own)?;
+    let other_tree = tree_of(alloc, &arena, &other)?;
+    let mut text = listed(alloc, &own, &tree)?;
+    text.append(b"\n")?;
+    text.append(listed(alloc, &own, &other_tree)?.as_slice())?;
+    Ok(Some(text))
+}
+
+/// Prints the listings, and ends with 1 where it can't.
+fn main(rt: HostRuntime) -> ExitCode {
+    let Ok(Some(text)) = listings(rt.alloc()) else {
+        return ExitCode::from(1);
+    };
+    match HostSink::new(rt.stdout()).put(text.as_slice()) {
+        Ok(()) => ExitCode::from(0),
+        Err(_) => ExitCode::from(1),
+    }
+}
