@@ -81,24 +81,31 @@ fn parts(alloc: Global, operation: u64, slots: u8) -> Result<List<Part>, NoMemor
     Ok(parts)
 }
 
-/// The first so many instructions, which do nothing.
+/// An instruction that does nothing.
+fn insn(alloc: Global, pieces: List<Piece>, parts: List<Part>) -> Insn {
+    Insn {
+        name: Text::new(alloc),
+        pieces,
+        parts,
+        assertion: None,
+        decodable: true,
+        cycles: 1,
+        semantics: Rtl {
+            op: Op::Nop,
+            mode: None,
+            number: 0,
+            items: List::new(alloc),
+        },
+    }
+}
+
+/// The first so many instructions.
 fn insns(alloc: Global, count: usize) -> Result<List<Insn>, NoMemory> {
     let mut insns = List::new(alloc);
     for (word, operation, slots) in INSNS.iter().take(count) {
-        insns.push(Insn {
-            name: Text::new(alloc),
-            pieces: pieces(alloc, word, *slots)?,
-            parts: parts(alloc, *operation, *slots)?,
-            assertion: None,
-            decodable: true,
-            cycles: 1,
-            semantics: Rtl {
-                op: Op::Nop,
-                mode: None,
-                number: 0,
-                items: List::new(alloc),
-            },
-        })?;
+        let pieces = pieces(alloc, word, *slots)?;
+        let parts = parts(alloc, *operation, *slots)?;
+        insns.push(insn(alloc, pieces, parts))?;
     }
     Ok(insns)
 }
@@ -128,4 +135,22 @@ pub(crate) fn machine(alloc: Global, count: usize) -> Result<Machine, NoMemory> 
         macros: List::new(alloc),
         texts: List::new(alloc),
     })
+}
+
+/// A part of a format that is always the same.
+fn constant(field: u16, value: u64) -> Part {
+    Part::Constant { field, value }
+}
+
+/// A machine of 1,024 instructions, each with constants of its own, ten bits of which differ.
+pub(crate) fn many(alloc: Global) -> Result<Machine, NoMemory> {
+    let mut made = machine(alloc, 0)?;
+    for k in 0..1024u64 {
+        let mut parts = List::new(alloc);
+        parts.push(constant(0, k / 64))?;
+        parts.push(constant(1, k / 4 % 16))?;
+        parts.push(constant(2, k % 4))?;
+        made.insns.push(insn(alloc, List::new(alloc), parts))?;
+    }
+    Ok(made)
 }
