@@ -1,0 +1,56 @@
+-- An expression of which nothing is said stands for one that is formed.
+use Rattle.std.proofs.Common.{◌≡◌, ℕ, Bool, true, false, ◌&&◌, nat_le, List, [], ◌∷◌, map, Option, Ok, Err, refl}
+use Rattle.cg_base.specs.declared.form.Form.{Form}
+use Rattle.cg_base.specs.declared.mode.Mode.{Mode}
+use Rattle.cg_model.specs.Checked.{Verdict, mode_of}
+use Rattle.cg_model.specs.Formed.{expression, stands, depth, is_formed}
+use Rattle.cg_model.specs.declared.machine.Machine.{Machine}
+use Rattle.cg_model.specs.declared.rtl.Rtl.{Rtl}
+use Rattle.cg_model.specs.faults.Judging.{Judged, other_modes, verdict_faults, mode_faults}
+use Rattle.cg_check.specs.declared.moded.Wanted.{Wanted}
+use Rattle.cg_check.specs.Wanting.{judged}
+use Rattle.cg_clean.proofs.Lists.{append_none}
+use Rattle.cg_known.specs.Table.{Table}
+use Rattle.cg_names.specs.Names.{rtl_of}
+use Rattle.cg_names.specs.declared.scope.Scope.{Scope}
+use Rattle.cg_rtl.specs.Shapes.{faults_in}
+use Rattle.cg_shaped.specs.Shaped.{gives_value}
+use Rattle.cg_shaped.specs.Named.{AreNamed}
+use Rattle.cg_shaped.specs.Depth.{AreShallow}
+use Rattle.cg_shaped.proofs.Named.{named_law}
+use Rattle.cg_shaped.proofs.Depth.{shallow_law}
+use Rattle.cg_expressions.specs.declared.asking.Asking.{Asking}
+use Rattle.cg_expressions.specs.declared.asking.Expression.{Expression}
+use Rattle.cg_expressions.specs.Asking.{expression_of}
+use Rattle.cg_expressions.specs.Judging.{of_expressions}
+use Rattle.cg_faults.specs.Modes.{of_rtl}
+use Rattle.cg_named.specs.E306.{missing}
+use Rattle.cg_lawful.proofs.Said.{both_silent, uses_defined}
+
+-- It has a mode.
+record HasMode (m : Machine) (r : Rtl) (want : Option Mode) : Type 0 where
+  mode : Mode
+  is : mode_of m r want ≡ Ok mode
+
+moded : (m : Machine) (j : Judged) → mode_faults m j ≡ [] → HasMode m j.rtl j.want
+moded m j e = by (mode_of m j.rtl j.want) refl (append_none (other_modes j.own j.rtl) (verdict_faults j (mode_of m j.rtl j.want)) e).1 where
+  by : (v : Verdict) → mode_of m j.rtl j.want ≡ v → verdict_faults j v ≡ [] → HasMode m j.rtl j.want
+  by (Ok k) is none = record { mode = k; is = is }
+  by (Err x) is none = absurd cc
+
+none_mapped : {A B : Type 0} (f : A → B) (xs : List A) → map f xs ≡ [] → xs ≡ []
+none_mapped f [] e = refl
+none_mapped f (x ∷ xs) e = absurd cc
+
+joined : (a b : Bool) → a ≡ true → b ≡ true → (a && b) ≡ true
+joined true b e f = f
+joined false b e f = e
+
+pub formed : (at : Table) (m : Machine) (s : Scope) (f : Form) (a : Asking) (own : List ℕ) (w : Wanted) → gives_value s ≡ true → faults_in f ≡ [] → of_expressions (missing at m) (expression_of m s f a ∷ []) ≡ [] → of_rtl m own w (rtl_of s f) ≡ [] → is_formed (rtl_of s f) ≡ true
+formed at m s f a own w value clear names modes =
+    let x : Expression = expression_of m s f a in
+    let named : AreNamed s = named_law s value in
+    let stand : stands (rtl_of s f) expression ≡ true = named.formed f clear (uses_defined at m x (both_silent (missing at m) x [] names).0) in
+    let mode : HasMode m (rtl_of s f) w.want = moded m (judged w (rtl_of s f)) (none_mapped _ (mode_faults m (judged w (rtl_of s f))) modes) in
+    let all : AreShallow m = shallow_law m in
+    joined (stands (rtl_of s f) expression) (nat_le (depth (rtl_of s f)) 64) stand (all.shallow (rtl_of s f) w.want mode.mode mode.is)
