@@ -9,7 +9,7 @@ use Rattle.cg_uses.specs.declared.uses.Use.TheVariants as stands
 use Rattle.cg_uses.specs.declared.uses.PlacedUse.{PlacedUse}
 use Rattle.cg_shaped.specs.Named.{is_defined, is_defined_at}
 use Rattle.cg_said.specs.declared.saying.Placed.{Placed}
-use Rattle.cg_said.specs.Saying.{only_text, earliest, earliest_said}
+use Rattle.cg_said.specs.Saying.{only_text, earliest_said}
 use Rattle.cg_expressions.specs.declared.asking.Expression.{Expression}
 use Rattle.cg_expressions.specs.Judging.{Says, placed_where, of_use, of_expression, of_expressions}
 use Rattle.cg_named.specs.E306.{missing}

@@ -14,7 +14,7 @@ use Rattle.cg_clean.proofs.Clauses.{first_true, second_true}
 use Rattle.cg_hw.specs.Keywords as keywords
 use Rattle.cg_hw.specs.Keywords.{is_word_byte, may_name, names_word_in, makes_word_in, makes_word, has_words_by, has_words}
 use Rattle.cg_known.specs.declared.items.Item.{Item}
-use Rattle.cg_known.specs.Items.{written_in, written, item_name_by, item_name, item_before, items_from}
+use Rattle.cg_known.specs.Items.{written_in, item_name_by, item_name, item_before, items_from}
 use Rattle.cg_attrs.specs.Contents.{are_items, item_value, next_value}
 use Rattle.cg_model.specs.Formed.{is_word, are_words}
 use Rattle.cg_model.specs.faults.E312.{is_in_word}
