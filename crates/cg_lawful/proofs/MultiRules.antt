@@ -78,7 +78,7 @@ first_formed at m s own subs w value [] clear names modes = nothing_formed
 first_formed at m s own subs w value (x ∷ xs) clear names modes =
     let apart : (of_expression (e306.missing at m) (expression_of m s x.1 (set_asking own subs 0)) ≡ []) × (of_expressions (e306.missing at m) (sets_from m own s subs 1 xs) ≡ []) =
     append_none (of_expression (e306.missing at m) (expression_of m s x.1 (set_asking own subs 0))) (of_expressions (e306.missing at m) (sets_from m own s subs 1 xs)) names in
-    formed at m s x.1 (set_asking own subs 0) own w value clear.0 (ap (λ zs. zs ++ []) apart.0) modes
+    formed at m s x.1 (set_asking own subs 0) own w refl value clear.0 (ap (λ zs. zs ++ []) apart.0) modes
 
 -- the sets of a clause that stands
 pub record Sets (elements : List Form) (name : List ℕ) (sets : List Form) : Type 0 where

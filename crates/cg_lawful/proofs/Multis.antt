@@ -57,7 +57,7 @@ module _ (at : Table) (m : Machine) (fields : Numbering) (s : Scope) (x : Multi)
   own y k subs clear names modes known = by (fields y.0) modes known where
     by : (o : Option ℕ) → of_sub m (insert_scope s x) x y.1 o ≡ [] → is_some o ≡ true → is_formed (rtl_of (insert_scope s x) y.1) ≡ true
     by None modes some = absurd (false≢true some)
-    by (Some n) modes some = formed at m (insert_scope s x) y.1 (set_asking x.name subs k) x.name (wanted purpose.Insert (mode_of_field m n) (Some x.mode)) refl clear (ap (λ zs. zs ++ []) names) modes
+    by (Some n) modes some = formed at m (insert_scope s x) y.1 (set_asking x.name subs k) x.name (wanted purpose.Insert (mode_of_field m n) (Some x.mode)) refl refl clear (ap (λ zs. zs ++ []) names) modes
 
   -- what is under a name is formed, where the name is a field's
   pub under_formed : (sets : List (List ℕ × Form)) (k : ℕ) (subs : List ℕ) → Clears sets → of_expressions (missing at m) (sets_from m x.name (insert_scope s x) subs k sets) ≡ [] → of_sets fields m (insert_scope s x) x sets ≡ []

@@ -26,7 +26,7 @@ use Rattle.cg_lawful.proofs.Formed.{formed}
 module _ (at : Table) (m : Machine) (s : Scope) (value : gives_value s ≡ true) (own : List ℕ) (n : Naming) (w : Wanted) where
   pub rule_formed : (o : Option Form) → IsClear o → of_expressions (missing at m) (plain_where m own s n o) ≡ [] → of_where m own w (option_map (rtl_of s) o) ≡ [] → is_formed_where (option_map (rtl_of s) o) ≡ true
   rule_formed None clear names modes = refl
-  rule_formed (Some f) clear names modes = formed at m s f (plain_asking own n) own w value clear names modes
+  rule_formed (Some f) clear names modes = formed at m s f (plain_asking own n) own w refl value clear names modes
 
   -- of a clause that may be absent; what stands behind its name is read so
   module _ (elements : List Form) (name : List ℕ) (read : Form → Option Form) (reads : List Form → Option Form) (same : (content : List Form) → read (Items content) ≡ reads content) where

@@ -1,5 +1,5 @@
 -- Where nothing is said of a clause, nothing is said of what stands in its expressions.
-use Rattle.std.proofs.Common.{◌≡◌, ◌∙◌, true, ◌&&◌, List, [], ◌∷◌, ◌++◌, Some, refl, sym, ap}
+use Rattle.std.proofs.Common.{◌≡◌, ◌∙◌, true, ◌&&◌, if◌then◌else◌, List, [], ◌∷◌, ◌++◌, Some, None, refl, sym, ap}
 use Rattle.std.specs.List.{list_all, flat_map}
 use Rattle.cg_clean.proofs.Lists.{append_none}
 use Rattle.cg_model.specs.declared.machine.Machine.{Machine}
@@ -11,6 +11,7 @@ use Rattle.cg_shaped.specs.Named.{is_defined, is_defined_at}
 use Rattle.cg_said.specs.declared.saying.Placed.{Placed}
 use Rattle.cg_said.specs.Saying.{only_text, earliest_said}
 use Rattle.cg_expressions.specs.declared.asking.Expression.{Expression}
+use Rattle.cg_expressions.specs.Asking.{asks_meaning}
 use Rattle.cg_expressions.specs.Judging.{Says, placed_where, of_use, of_expression, of_expressions}
 use Rattle.cg_named.specs.E306.{missing}
 
@@ -23,13 +24,15 @@ none_placed (x ∷ xs) e = absurd cc
 pub both_silent : (says : Says) (x : Expression) (xs : List Expression) → of_expressions says (x ∷ xs) ≡ [] → (of_expression says x ≡ []) × (of_expressions says xs ≡ [])
 both_silent says x xs e = append_none (of_expression says x) (of_expressions says xs) e
 
--- Where no name is missing, each name of a kind is defined.
-module _ (at : Table) (m : Machine) (x : Expression) where
+-- Where no name is missing of which it is asked, each name of a kind is defined.
+module _ (at : Table) (m : Machine) (x : Expression) (asks : asks_meaning x.asking.asked ≡ true) where
   defined_here : (u : PlacedUse) → of_use (missing at m) x u ≡ [] → is_defined_at u ≡ true
   unfolding missing
   defined_here u e = by u.what refl where
     by : (w : Use) → u.what ≡ w → is_defined u.what ≡ true
-    by (stands.Undefined name) is = let never : placed_where (x.asking.at ++ u.place) (Some (only_text name)) ≡ [] = sym (ap (λ w. placed_where (x.asking.at ++ u.place) (missing at m x w)) is) ∙ e in absurd cc
+    by (stands.Undefined name) is =
+        let said : placed_where (x.asking.at ++ u.place) (if asks_meaning x.asking.asked then Some (only_text name) else None) ≡ [] = sym (ap (λ w. placed_where (x.asking.at ++ u.place) (missing at m x w)) is) ∙ e in
+        let never : placed_where (x.asking.at ++ u.place) (Some (only_text name)) ≡ [] = sym (ap (λ b. placed_where (x.asking.at ++ u.place) (if b then Some (only_text name) else None)) asks) ∙ said in absurd cc
     by (stands.Node o mode n) is = ap is_defined is
     by (stands.Constant name n) is = ap is_defined is
     by (stands.Unknown name) is = ap is_defined is

@@ -41,14 +41,14 @@ of_symbol at x None = None
 of_symbol at x (Some name) = if is_stray_anyof at x name then Some (only_text name) else None
 
 -- Of what stands in an expression: a field, or an operand that has one, that isn't in the format, where that is asked; and a name that
--- stands for nothing, where it has to be of a kind.
+-- stands for nothing, where it has to be of a kind. Names are asked for once choices are put in.
 abbrev pub of_named : Machine → Option Nameable → Op → Option Mode → ℤ → Option Saying
 of_named m None o mode n = None
 of_named m (Some may) o mode n = option_map (fault_said m []) (first (stray_at m may o mode n))
 
 unfoldable pub missing : Table → Machine → Says
 missing at m x (stands.Node o mode n) = if asks_meaning x.asking.asked then of_named m (nameable m x.asking.naming) o mode n else None
-missing at m x (stands.Undefined name) = Some (only_text name)
+missing at m x (stands.Undefined name) = if asks_meaning x.asking.asked then Some (only_text name) else None
 missing at m x what = of_symbol at x (no_operand what)
 
 -- Of a clause of the form of this number: what stands in its expressions, and its names.

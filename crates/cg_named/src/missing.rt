@@ -136,7 +136,13 @@ impl UseRule for Missing<'_> {
                     Ok(None)
                 }
             }
-            Use::Undefined(name) => Ok(Some(only_text(alloc, name.as_slice())?)),
+            Use::Undefined(name) => {
+                if asks_meaning(expression.asking.asked) {
+                    Ok(Some(only_text(alloc, name.as_slice())?))
+                } else {
+                    Ok(None)
+                }
+            }
             other => symbol_said(alloc, self.names, expression, no_operand(other)),
         }
     }
