@@ -1,23 +1,25 @@
 -- E304 of expressions in which choices were put: a name that is put in where a function has its mode is read as that mode, and where an
--- arm may have `else` as that word. So a shape may become wrong that was right as it was written.
+-- arm may have `else` as that word. So a shape may become wrong that was right as it was written, and what was an arm be left out as a
+-- function.
 use Rattle.std.specs.Prelude.{ℕ, if◌then◌else◌, List, [], ◌∷◌, ◌++◌, Option, Some, None, codes}
 use Rattle.std.specs.List.{flat_map}
+use Rattle.std.specs.Option.{option_or}
 use Rattle.cg_base.specs.declared.form.Form.{Form}
 use Rattle.cg_base.specs.Refusing.{first}
 use Rattle.cg_base.specs.Texts.{same_text}
-use Rattle.cg_rtl.specs.Shapes.{wrong_in}
+use Rattle.cg_rtl.specs.Shapes.{wrong_in, left_out_in}
 use Rattle.cg_choices.specs.declared.written.Written.{Written}
 use Rattle.cg_said.specs.declared.saying.Placed.{Placed}
 use Rattle.cg_said.specs.Saying.{only_text, placed}
 use Rattle.cg_named.specs.Words.{of_literals}
 
--- The first wrong shape is said where the expression begins.
+-- The first wrong shape is said where the expression begins, and else the first function that is left out.
 abbrev pub said_first : Option (List ℕ) → List Placed
 said_first None = []
 said_first (Some head) = placed [] (only_text head) ∷ []
 
 abbrev pub wrong_shape : Form → List Placed
-wrong_shape f = said_first (first (wrong_in f))
+wrong_shape f = said_first (option_or (first (wrong_in f)) (first (left_out_in f)))
 
 abbrev pub wrong_where : Option Form → List Placed
 wrong_where None = []

@@ -2,22 +2,34 @@
 
 ghost use Rattle.std.specs.Prelude.{◌≡◌, ◌++◌, OnOk};
 ghost use Rattle.std.specs.List.{flat_map};
-ghost use Rattle.std.specs.Option.{option_copied};
+ghost use Rattle.std.specs.Option.{option_copied, option_or};
+ghost use Rattle.cg_base.specs.Refusing.{first};
+ghost use Rattle.cg_rtl.specs.Shapes.{wrong_in, left_out_in};
 ghost use Rattle.cg_named.specs.Shapes as spec;
 ghost use Rattle.cg_said.specs.Subject.{all_lent};
 
 use crate::words::put_of_literals;
 use cg_base::{Form, List, NoMemory};
 use cg_choices::Written;
-use cg_rtl::first_wrong_in;
+use cg_rtl::{first_left_out_in, first_wrong_in};
 use cg_said::{Placed, only_text, put_at};
 use std::alloc::Global;
 
-/// Puts the head of the first function of a wrong shape in an expression at the end.
+/// The head of the first function of a wrong shape in an expression, and else the first that is left out.
+fn first_flaw(form: &Form) -> Option<&[u8]>
+    ensures { option_copied result ≡ option_or (first (wrong_in form.now)) (first (left_out_in form.now)) }
+{
+    match first_wrong_in(form) {
+        Some(head) => Some(head),
+        None => first_left_out_in(form),
+    }
+}
+
+/// Puts the head of the first function in an expression that is wrong or left out at the end.
 fn put_shape(alloc: Global, list: &mut List<Placed>, form: &Form) -> Result<(), NoMemory>
     ensures { OnOk result (list.new ≡ list.old ++ spec.wrong_shape form.now) }
 {
-    match first_wrong_in(form) {
+    match first_flaw(form) {
         Some(head) => put_at(list, List::new(alloc), only_text(alloc, head)?),
         None => Ok(()),
     }
