@@ -23,7 +23,7 @@ use Rattle.cg_lawful.proofs.Origins.{FromForm, from_forms}
 use Rattle.cg_lawful.proofs.Unsaid.{Unsaid, unsaid}
 
 module _ (s : Selection) (scope : Scope) (m : Machine) (tops : List Top) (alone : first_refusal tops ≡ None) (elements : s.elements ≡ filter_map element_at tops) (none : by_elements (described s) scope m tops ≡ None) where
-  one_insn : (w : Written) → IsIn (written_in s) w → (form : InstructionForm) → has_literals (insn_by (described s) scope w form) ≡ true
+  pub one_insn : (w : Written) → IsIn (written_in s) w → (form : InstructionForm) → has_literals (insn_by (described s) scope w form) ≡ true
   one_insn w i form =
       let o : FromForm s w = held (FromForm s) (written_in s) w (from_forms s) i in
       let x : IsElement s.elements (element.Insn (insn.Instruction o.form)) = record { place = o.place; is = o.is } in

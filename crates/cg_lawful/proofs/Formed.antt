@@ -22,7 +22,7 @@ use Rattle.cg_shaped.proofs.Depth.{shallow_law}
 use Rattle.cg_expressions.specs.declared.asking.Asking.{Asking}
 use Rattle.cg_expressions.specs.declared.asking.Expression.{Expression}
 use Rattle.cg_expressions.specs.Asking.{asks_meaning, expression_of}
-use Rattle.cg_expressions.specs.Judging.{of_expressions}
+use Rattle.cg_expressions.specs.Judging.{of_expression, of_expressions}
 use Rattle.cg_faults.specs.Modes.{of_rtl}
 use Rattle.cg_named.specs.E306.{missing}
 use Rattle.cg_lawful.proofs.Said.{both_silent, uses_defined}
@@ -46,11 +46,20 @@ joined : (a b : Bool) → a ≡ true → b ≡ true → (a && b) ≡ true
 joined true b e f = f
 joined false b e f = e
 
-pub formed : (at : Table) (m : Machine) (s : Scope) (f : Form) (a : Asking) (own : List ℕ) (w : Wanted) → asks_meaning a.asked ≡ true → gives_value s ≡ true → faults_in f ≡ [] → of_expressions (missing at m) (expression_of m s f a ∷ []) ≡ [] → of_rtl m own w (rtl_of s f) ≡ [] → is_formed (rtl_of s f) ≡ true
-formed at m s f a own w asks value clear names modes =
+-- What stands as an expression and has a mode is formed.
+pub formed_moded : (m : Machine) (r : Rtl) (own : List ℕ) (w : Wanted) → stands r expression ≡ true → of_rtl m own w r ≡ [] → is_formed r ≡ true
+formed_moded m r own w stand modes =
+    let mode : HasMode m r w.want = moded m (judged w r) (none_mapped _ (mode_faults m (judged w r)) modes) in
+    let all : AreShallow m = shallow_law m in
+    joined (stands r expression) (nat_le (depth r) 64) stand (all.shallow r w.want mode.mode mode.is)
+
+-- An expression stands as one, where its shapes are right and its names are there.
+pub stands_named : (at : Table) (m : Machine) (s : Scope) (f : Form) (a : Asking) → asks_meaning a.asked ≡ true → gives_value s ≡ true → faults_in f ≡ [] → of_expression (missing at m) (expression_of m s f a) ≡ [] → stands (rtl_of s f) expression ≡ true
+stands_named at m s f a asks value clear names =
     let x : Expression = expression_of m s f a in
     let named : AreNamed s = named_law s value in
-    let stand : stands (rtl_of s f) expression ≡ true = named.formed f clear (uses_defined at m x asks (both_silent (missing at m) x [] names).0) in
-    let mode : HasMode m (rtl_of s f) w.want = moded m (judged w (rtl_of s f)) (none_mapped _ (mode_faults m (judged w (rtl_of s f))) modes) in
-    let all : AreShallow m = shallow_law m in
-    joined (stands (rtl_of s f) expression) (nat_le (depth (rtl_of s f)) 64) stand (all.shallow (rtl_of s f) w.want mode.mode mode.is)
+    named.formed f clear (uses_defined at m x asks names)
+
+pub formed : (at : Table) (m : Machine) (s : Scope) (f : Form) (a : Asking) (own : List ℕ) (w : Wanted) → asks_meaning a.asked ≡ true → gives_value s ≡ true → faults_in f ≡ [] → of_expressions (missing at m) (expression_of m s f a ∷ []) ≡ [] → of_rtl m own w (rtl_of s f) ≡ [] → is_formed (rtl_of s f) ≡ true
+formed at m s f a own w asks value clear names modes =
+    formed_moded m (rtl_of s f) own w (stands_named at m s f a asks value clear (both_silent (missing at m) (expression_of m s f a) [] names).0) modes

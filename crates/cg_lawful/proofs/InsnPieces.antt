@@ -40,10 +40,10 @@ module _ (d : Described) (scope : Scope) (m : Machine) (form : InstructionForm) 
   abbrev e : Element
   e = element.Insn (insn.Instruction form)
 
-  own : Wants u.top.form form
+  pub own : Wants u.top.form form
   own = wants d scope m form place u
 
-  none_of_choices : (name : List ℕ) (x : Stands own.elements name) → of_choices (of_form (place + 1) d.written) name ≡ []
+  pub none_of_choices : (name : List ℕ) (x : Stands own.elements name) → of_choices (of_form (place + 1) d.written) name ≡ []
   none_of_choices name x =
       let ws : List Written = of_form (place + 1) d.written in
       let c : Clause = record { name = name; content = x.content; elements = own.elements } in

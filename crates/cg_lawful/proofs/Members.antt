@@ -1,5 +1,5 @@
 -- What holds of all of a list holds of each, and what is given of none is given of no one.
-use Rattle.std.proofs.Common.{◌≡◌, ◌∙◌, ℕ, zero, suc, Bool, true, false, if◌then◌else◌, List, [], ◌∷◌, ◌++◌, map, filter, Some, slice_get, sym, ap, subst}
+use Rattle.std.proofs.Common.{◌≡◌, ◌∙◌, ℕ, zero, suc, Bool, true, false, if◌then◌else◌, List, [], ◌∷◌, ◌++◌, map, filter, Some, slice_get, refl, sym, ap, subst}
 use Rattle.std.specs.List.{flat_map}
 use Rattle.cg_clean.proofs.Lists.{append_none, the_found}
 
@@ -26,6 +26,11 @@ all_append P (x ∷ xs) ys a b = (a.0, all_append P xs ys a.1 b)
 pub all_map : {A B : Type 0} (P : B → Type 0) (f : A → B) → ((a : A) → P (f a)) → (xs : List A) → AllHold P (map f xs)
 all_map P f h [] = tt
 all_map P f h (x ∷ xs) = (h x, all_map P f h xs)
+
+-- of those of a list
+pub all_map_in : {A B : Type 0} (P : B → Type 0) (f : A → B) (xs : List A) → ((a : A) → IsIn xs a → P (f a)) → AllHold P (map f xs)
+all_map_in P f [] h = tt
+all_map_in P f (x ∷ xs) h = (h x (record { place = 0; is = refl }), all_map_in P f xs (λ a i. h a (record { place = suc i.place; is = i.is })))
 
 -- of those that pass a test
 pub filtered_none : {A B : Type 0} (f : A → List B) (test : A → Bool) (xs : List A) (x : A) → flat_map f (filter test xs) ≡ [] → IsIn xs x → test x ≡ true → f x ≡ []

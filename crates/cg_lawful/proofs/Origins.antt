@@ -13,15 +13,20 @@ use Rattle.cg_expanded.specs.Expanded.{choices_put, instructions_in, instruction
 use Rattle.cg_expanded.specs.Written.{written_of}
 use Rattle.cg_data.specs.Selecting.{Selection, takes_part_in}
 use Rattle.cg_described.specs.Described.{written_in}
-use Rattle.cg_lawful.proofs.Members.{AllHold, all_append, all_map}
+use Rattle.cg_lawful.proofs.Members.{AllHold, IsIn, all_append, all_map_in}
 
--- Its form, which takes part, and the choices that were made.
+-- the ways to choose of an instruction of this form
+abbrev pub ways_of : Selection → ℕ → InstructionForm → List (List Chosen)
+ways_of s place form = take most (ways (anyofs_of s.at s.elements (written_of s.at s.elements (suc place) form).parts))
+
+-- Its form, which takes part, and the choices that were made, which are one of the ways to choose.
 pub record FromForm (s : Selection) (w : Written) : Type 0 where
   pub place : ℕ
   pub form : InstructionForm
   pub is : slice_get s.elements place ≡ Some (element.Insn (insn.Instruction form))
   pub part : takes_part_in s (element.Insn (insn.Instruction form)) ≡ true
   pub chosen : List Chosen
+  pub way : IsIn (ways_of s place form) chosen
   pub written : w ≡ with_choices chosen (written_of s.at s.elements (suc place) form)
   pub number : w.form ≡ suc place
 
@@ -33,7 +38,8 @@ module _ (s : Selection) where
   by_choices : (place : ℕ) (form : InstructionForm) → slice_get s.elements place ≡ Some (element.Insn (insn.Instruction form)) → takes_part_in s (element.Insn (insn.Instruction form)) ≡ true
       → AllHold (FromForm s) (choices_put s.at s.elements (written_of s.at s.elements (suc place) form))
   unfolding each_choice
-  by_choices place form is part = all_map (FromForm s) (λ cs. with_choices cs (written_of s.at s.elements (suc place) form)) (λ cs. record { place = place; form = form; is = is; part = part; chosen = cs; written = refl; number = with_form place form cs }) (take most (ways (anyofs_of s.at s.elements (written_of s.at s.elements (suc place) form).parts)))
+  by_choices place form is part = all_map_in (FromForm s) (λ cs. with_choices cs (written_of s.at s.elements (suc place) form)) (ways_of s place form)
+      (λ cs way. record { place = place; form = form; is = is; part = part; chosen = cs; way = way; written = refl; number = with_form place form cs })
 
   by_element : (place : ℕ) (e : Element) → slice_get s.elements place ≡ Some e → takes_part_in s e ≡ true → AllHold (FromForm s) (instructions_in s.at s.elements (suc place) e)
   by_element place (element.Insn (insn.Instruction form)) is part = by_choices place form is part
