@@ -1,0 +1,107 @@
+-- The bits and slots of a description's machine, where nothing is said of its forms.
+use Rattle.std.proofs.Common.{◌≡◌, ◌∙◌, ℕ, true, List, [], Option, Some, None, slice_get, sym, ap, subst}
+use Rattle.std.specs.List.{filter_map}
+use Rattle.std.specs.Option.{option_map}
+use Rattle.cg_base.specs.declared.form.Top.{Top}
+use Rattle.cg_allowed.proofs.Framing.{IsElement}
+use Rattle.cg_allowed.proofs.Members.{IsMember}
+use Rattle.cg_clean.proofs.Lists.{the_found}
+use Rattle.cg_element.specs.declared.element.Element.{Element}
+use Rattle.cg_element.specs.declared.element.Element.TheVariants as element
+use Rattle.cg_element.specs.Reading.{element_at, first_refusal}
+use Rattle.cg_faults.specs.Least.{by_elements}
+use Rattle.cg_ifield.specs.declared.form.FieldForm.TheVariants as field
+use Rattle.cg_ifield.specs.declared.form.PlainForm.{PlainForm}
+use Rattle.cg_insn.specs.declared.form.InsnForm.TheVariants as insn
+use Rattle.cg_insn.specs.declared.form.InstructionForm.{InstructionForm}
+use Rattle.cg_insn.specs.declared.form.MacroForm.{MacroForm}
+use Rattle.cg_model.specs.faults.E309.{misplaced}
+use Rattle.cg_model.specs.declared.field.Field.{Field}
+use Rattle.cg_model.specs.declared.insn.Insn.{Insn}
+use Rattle.cg_model.specs.declared.insn.MacroInsn.{MacroInsn}
+use Rattle.cg_model.specs.declared.machine.Machine.{Machine}
+use Rattle.cg_names.specs.declared.scope.Scope.{Scope}
+use Rattle.cg_choices.specs.declared.written.Written.{Written}
+use Rattle.cg_data.specs.Selecting.{Selection, takes_part_in, members}
+use Rattle.cg_data.specs.Numbering.{field_in}
+use Rattle.cg_described.specs.Described.{Described, described, written_in}
+use Rattle.cg_lawful.proofs.Members.{AllHold, IsIn, held}
+use Rattle.cg_lawful.proofs.Origins.{FromForm, from_forms}
+use Rattle.cg_selected.specs.Instructions.{insn_by, insns_of}
+use Rattle.cg_selected.specs.Macros.{macro_in, macro_slots, target_of, macro_by, macro_of, macros_of}
+use Rattle.cg_selected.specs.Machines.{machine_of}
+use Rattle.cg_selected.specs.Rules.{ruled_field, ruled_fields}
+use Rattle.cg_fitted.specs.Fitting.{InsnFits, MacroFits, AreFitting, IsSized}
+use Rattle.cg_fitted.proofs.Bits.{parts_apart, parts_free}
+use Rattle.cg_fitted.proofs.Delimited.{slots_delimited, macro_delimited}
+use Rattle.cg_fitted.proofs.Fields.{form_lies, field_placed}
+use Rattle.cg_fitted.proofs.Insns.{all_given, all_insns, all_members, all_mapped}
+use Rattle.cg_fitted.proofs.Silent.{Silent, silent}
+
+-- which form a member gave
+field_given : (e : Element) (form : PlainForm) → field_in e ≡ Some form → e ≡ element.Field (field.Plain form)
+field_given (element.Field (field.Plain other)) form is = ap (λ o. element.Field (field.Plain (or other o))) is where
+  or : PlainForm → Option PlainForm → PlainForm
+  or x None = x
+  or x (Some y) = y
+field_given _ form is = absurd cc
+
+macro_given : (e : Element) (form : MacroForm) → macro_in e ≡ Some form → e ≡ element.Insn (insn.Macro form)
+macro_given (element.Insn (insn.Macro other)) form is = ap (λ o. element.Insn (insn.Macro (or other o))) is where
+  or : MacroForm → Option MacroForm → MacroForm
+  or x None = x
+  or x (Some y) = y
+macro_given _ form is = absurd cc
+
+module _ (s : Selection) (scope : Scope) (m : Machine) (tops : List Top) (alone : first_refusal tops ≡ None) (elements : s.elements ≡ filter_map element_at tops) (none : by_elements (described s) scope m tops ≡ None) (sized : IsSized (described s)) where
+  at_element : (e f : Element) → e ≡ f → (x : IsElement s.elements e) → takes_part_in s e ≡ true → Silent (described s) scope m x.place f
+  at_element e f same x part = subst (Silent (described s) scope m x.place) same (silent (described s) scope m tops alone elements none e x part)
+
+  one_field : (e : Element) (form : PlainForm) → IsMember s field_in e form → misplaced (ruled_field (described s) scope form) ≡ []
+  one_field e form x =
+      let u : Silent (described s) scope m x.there.place (element.Field (field.Plain form)) = at_element e (element.Field (field.Plain form)) (field_given e form x.gives) x.there x.part in
+      field_placed (described s) scope form (form_lies (described s) scope m x.there.place form u sized.sized)
+
+  pub all_fields : AllHold (λ f. misplaced f ≡ []) (ruled_fields (described s) scope)
+  all_fields = all_mapped (ruled_field (described s) scope) (λ f. misplaced f ≡ []) (members s field_in) (all_members s field_in (λ form. misplaced (ruled_field (described s) scope form) ≡ []) one_field)
+
+  one_insn : (w : Written) → IsIn (written_in s) w → (form : InstructionForm) → InsnFits m (insn_by (described s) scope w form)
+  one_insn w i form =
+      let o : FromForm s w = held (FromForm s) (written_in s) w (from_forms s) i in
+      let e : Element = element.Insn (insn.Instruction o.form) in
+      let u : Silent (described s) scope m o.place e = silent (described s) scope m tops alone elements none e (record { place = o.place; is = o.is }) o.part in
+      record {
+        apart = parts_apart (described s) scope m o.place e u sized.sized w i o.number;
+        free = parts_free (described s) scope m o.place e u sized.sized w i o.number;
+        delimited = slots_delimited (described s) scope m o.place e u sized.sized w i o.number;
+      }
+
+  one_macro : (e : Element) (form : MacroForm) → IsMember s macro_in e form → (target : ℕ) → MacroFits m (macro_by (described s) form (macro_slots (described s).operand_numbers form) target)
+  one_macro e form x target =
+      let u : Silent (described s) scope m x.there.place (element.Insn (insn.Macro form)) = at_element e (element.Insn (insn.Macro form)) (macro_given e form x.gives) x.there x.part in
+      record { delimited = macro_delimited (described s) scope m x.there.place form u sized.sized }
+
+  abbrev MacroOf : MacroForm → Type 0
+  MacroOf form = (target : ℕ) → MacroFits m (macro_by (described s) form (macro_slots (described s).operand_numbers form) target)
+
+  by_target : (form : MacroForm) → MacroOf form → (o : Option ℕ) (x : MacroInsn) → option_map (macro_by (described s) form (macro_slots (described s).operand_numbers form)) o ≡ Some x → MacroFits m x
+  by_target form h None x is = absurd cc
+  by_target form h (Some k) x is = subst (MacroFits m) (the_found (macro_by (described s) form (macro_slots (described s).operand_numbers form) k) x is) (h k)
+
+  pub all_macros : AllHold (MacroFits m) (macros_of (described s))
+  all_macros =
+      let forms : AllHold MacroOf (members s macro_in) = all_members s macro_in MacroOf one_macro in
+      all_given (MacroFits m) (macro_of (described s)) (members s macro_in) (λ form x i is. by_target form (held MacroOf (members s macro_in) form forms i) (target_of (described s).written form) x is)
+
+  -- of the machine of the description
+  pub whole_law : m ≡ machine_of (described s) scope → AreFitting m
+  whole_law same = record {
+    fields = λ k f is. held (λ x. misplaced x ≡ []) (ruled_fields (described s) scope) f all_fields (record { place = k; is = sym (ap (λ x. slice_get x.fields k) same) ∙ is });
+    insns = λ k i is. held (InsnFits m) (insns_of (described s) scope) i (all_insns (described s) scope (InsnFits m) one_insn) (record { place = k; is = sym (ap (λ x. slice_get x.insns k) same) ∙ is });
+    macros = λ k x is. held (MacroFits m) (macros_of (described s)) x all_macros (record { place = k; is = sym (ap (λ y. slice_get y.macros k) same) ∙ is });
+  }
+
+-- of a description that is known to be that of a selection
+pub whole_of : (d : Described) (s : Selection) (scope : Scope) (m : Machine) (tops : List Top) → d ≡ described s → first_refusal tops ≡ None → s.elements ≡ filter_map element_at tops → by_elements d scope m tops ≡ None → IsSized d → m ≡ machine_of d scope → AreFitting m
+whole_of d s scope m tops same alone elements none sized own =
+    whole_law s scope m tops alone elements (subst (λ x. by_elements x scope m tops ≡ None) same none) (subst IsSized same sized) (own ∙ ap (λ x. machine_of x scope) same)
