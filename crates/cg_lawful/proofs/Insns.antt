@@ -41,16 +41,16 @@ form_or x (insn.Instruction y) = y
 form_or x _ = x
 
 -- A row of a table is wanted, and no other spelling counts as it.
-abbrev is_wanted_role : Role → Bool
+abbrev pub is_wanted_role : Role → Bool
 is_wanted_role Wanted = true
 is_wanted_role _ = false
 
-abbrev is_wanted_in : {C : Type 0} → List (Row C) → List ℕ → Bool
+abbrev pub is_wanted_in : {C : Type 0} → List (Row C) → List ℕ → Bool
 is_wanted_in rows name = passes (λ r. is_wanted_role r.role) (row_named rows name)
 
-record IsWanted {C : Type 0} (rows : List (Row C)) (name : List ℕ) : Type 0 where
-  apart : list_all (is_apart name) rows ≡ true
-  wanted : is_wanted_in rows name ≡ true
+pub record IsWanted {C : Type 0} (rows : List (Row C)) (name : List ℕ) : Type 0 where
+  pub apart : list_all (is_apart name) rows ≡ true
+  pub wanted : is_wanted_in rows name ≡ true
 
 module _ {C : Type 0} (wrongs left_outs : Texts C) (rows : List (Row C)) (elements : List Form) (none : least (clause_faults wrongs left_outs rows elements) ≡ None) (name : List ℕ) where
   by_role : (r : Row C) → row_named rows name ≡ Some r → list_all (is_apart name) rows ≡ true → (role : Role) → r.role ≡ role → is_wanted_role role ≡ true → Stands elements name
@@ -66,7 +66,7 @@ module _ {C : Type 0} (wrongs left_outs : Texts C) (rows : List (Row C)) (elemen
   by_row None is apart wanted = absurd (false≢true wanted)
   by_row (Some r) is apart wanted = by_role r is apart r.role refl wanted
 
-  wanted_there : IsWanted rows name → Stands elements name
+  pub wanted_there : IsWanted rows name → Stands elements name
   wanted_there w = by_row (row_named rows name) refl w.apart w.wanted
 
 -- the clauses that an instruction has to have, in a table
@@ -76,7 +76,7 @@ record AreWanted {C : Type 0} (rows : List (Row C)) (elements : List Form) (form
   format : IsWanted rows (codes "format")
   semantics : IsWanted rows (codes "semantics")
 
-wants_of : (f : Form) (form : InstructionForm) (o : Opened kind_named insn_in f (insn.Instruction form)) → least (insn_faults f) ≡ None → Wants f form
+pub wants_of : (f : Form) (form : InstructionForm) (o : Opened kind_named insn_in f (insn.Instruction form)) → least (insn_faults f) ≡ None → Wants f form
 wants_of f form o clear =
     let none : least (clause_faults wrong left_out (rows_of o.kind) o.elements) ≡ None = sym (ap (λ r. least (form_faults (own_faults wrong left_out table_of) r)) o.known) ∙ clear in
     let all : AreWanted (rows_of o.kind) o.elements form = of_kind (λ k. insn_in k o.elements ≡ insn.Instruction form → AreWanted (rows_of k) o.elements form) heads o.head o.kind o.chosen (
