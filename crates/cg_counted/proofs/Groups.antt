@@ -46,7 +46,7 @@ none_of_it : (n : ℕ) (ws : List Written) → AllHold (λ w. (w.form == n) ≡ 
 none_of_it n [] all = refl
 none_of_it n (w ∷ ws) all = ap (λ b. if b then w ∷ of_form n ws else of_form n ws) all.0 ∙ none_of_it n ws all.1
 
-and_nothing : {A : Type 0} (xs : List A) → xs ++ [] ≡ xs
+pub and_nothing : {A : Type 0} (xs : List A) → xs ++ [] ≡ xs
 and_nothing [] = refl
 and_nothing (x ∷ xs) = ap (λ ys. x ∷ ys) (and_nothing xs)
 

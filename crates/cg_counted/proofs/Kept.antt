@@ -34,7 +34,7 @@ use Rattle.cg_counted.proofs.Own.{IsShort, Unsaid, unsaid, Own}
 use Rattle.cg_counted.proofs.Within.{none_joined}
 
 -- those that are kept of some
-distinct_short : (before xs : List (List ℕ)) → AllHold IsShort xs → AllHold IsShort (distinct_behind before xs)
+pub distinct_short : (before xs : List (List ℕ)) → AllHold IsShort xs → AllHold IsShort (distinct_behind before xs)
 distinct_short before [] all = tt
 distinct_short before (x ∷ xs) all = by (is_among before x) (distinct_short before xs all.1) (distinct_short (before ++ x ∷ []) xs all.1) where
   by : (b : Bool) → AllHold IsShort (distinct_behind before xs) → AllHold IsShort (distinct_behind (before ++ x ∷ []) xs) → AllHold IsShort (if b then distinct_behind before xs else x ∷ distinct_behind (before ++ x ∷ []) xs)

@@ -15,4 +15,8 @@ pub mod Places
 pub mod Rules
 pub mod Shapes
 pub mod Kept
+pub mod Leading
+pub mod Ways
+pub mod Bare
+pub mod Operands
 pub mod Whole

@@ -18,7 +18,7 @@ or_none true = refl
 or_none false = refl
 
 -- one more stands at the end
-among_more : (before : List (List ℕ)) (x name : List ℕ) → is_among (before ++ x ∷ []) name ≡ (is_among before name || same_text x name)
+pub among_more : (before : List (List ℕ)) (x name : List ℕ) → is_among (before ++ x ∷ []) name ≡ (is_among before name || same_text x name)
 among_more [] x name = or_none (same_text x name)
 among_more (y ∷ ys) x name = ap (λ b. same_text y name || b) (among_more ys x name) ∙ sym (or_same (same_text y name) (is_among ys name) (same_text x name))
 

@@ -36,7 +36,7 @@ pub sum_append : (xs ys : List ℕ) → sum_of (xs ++ ys) ≡ sum_of xs + sum_of
 sum_append [] ys = omega arith
 sum_append (x ∷ xs) ys = let rest : sum_of (xs ++ ys) ≡ sum_of xs + sum_of ys = sum_append xs ys in omega (arith, rest)
 
-map_append : {A B : Type 0} (f : A → B) (xs ys : List A) → map f (xs ++ ys) ≡ map f xs ++ map f ys
+pub map_append : {A B : Type 0} (f : A → B) (xs ys : List A) → map f (xs ++ ys) ≡ map f xs ++ map f ys
 map_append f [] ys = refl
 map_append f (x ∷ xs) ys = ap (λ zs. f x ∷ zs) (map_append f xs ys)
 

@@ -75,7 +75,7 @@ long_more : {A : Type 0} (xs : List A) (x : A) → length (xs ++ x ∷ []) ≡ s
 long_more [] x = refl
 long_more (y ∷ ys) x = ap suc (long_more ys x)
 
-joined_more : {A : Type 0} (xs : List A) (x : A) (ys : List A) → (xs ++ x ∷ []) ++ ys ≡ xs ++ x ∷ ys
+pub joined_more : {A : Type 0} (xs : List A) (x : A) (ys : List A) → (xs ++ x ∷ []) ++ ys ≡ xs ++ x ∷ ys
 joined_more [] x ys = refl
 joined_more (y ∷ xs) x ys = ap (λ zs. y ∷ zs) (joined_more xs x ys)
 

@@ -7,9 +7,10 @@ use Rattle.cg_counts.specs.Counts.{nodes_of}
 use Rattle.cg_choices.specs.declared.written.Written.{Written}
 use Rattle.cg_data.specs.Selecting.{Selection, members}
 use Rattle.cg_data.specs.Hardware.{built_in, cells_of}
+use Rattle.cg_data.specs.Operands.{operand_of, operands_of}
 use Rattle.cg_data.specs.Numbering.{field_in, multi_in, hardware_in, operand_in, operand_names}
 use Rattle.cg_operand.specs.declared.form.PlainOperandForm.{PlainOperandForm}
-use Rattle.cg_described.specs.Bare.{bare_names}
+use Rattle.cg_described.specs.Bare.{bare_names, bare_operand}
 use Rattle.cg_described.specs.Described.{Described, described, written_in, whole_scope, all_operand_names}
 use Rattle.cg_described.specs.Seen.{forms_of}
 use Rattle.cg_described.specs.Texts.{all_texts}
@@ -34,13 +35,14 @@ use Rattle.cg_counted.proofs.Few.{AreFew, few, mapped_long}
 use Rattle.cg_counted.proofs.Nodes.{of_fields, of_multis, of_hardwares}
 use Rattle.cg_counted.proofs.Groups.{all_so}
 use Rattle.cg_counted.proofs.Kept.{texts_kept, name_kept}
+use Rattle.cg_counted.proofs.Operands.{operands_short}
 use Rattle.cg_counted.proofs.Over.{fewer}
 use Rattle.cg_counted.proofs.Places.{StandsBefore}
 use Rattle.cg_counted.proofs.Rules.{members_clear, built_in_clear}
 use Rattle.cg_counted.proofs.Shapes.{shapes_few, slots_few, syntaxes_few}
 use Rattle.cg_lawful.proofs.Members.{AllHold}
 use Rattle.cg_counted.proofs.Elements.{short_fields, short_multis, few_hardware, short_insns, short_macros}
-use Rattle.cg_counted.proofs.Within.{fields_within, multis_within, hardware_within, insns_within, macros_within, numbers_within}
+use Rattle.cg_counted.proofs.Within.{operands_within, fields_within, multis_within, hardware_within, insns_within, macros_within, numbers_within}
 
 -- The nodes of a machine's elements are those that are counted by its forms.
 field_sum : (s : Selection) (scope : Scope) (forms : List PlainForm) → all_field_nodes (map (ruled_field (described s) scope) forms) ≡ sum_of (map (of_fields s scope) forms)
@@ -155,6 +157,16 @@ module _ (s : Selection) (scope : Scope) (m : Machine) (tops : List Top) (alone 
   few_rules : 5 + length hardware ≤ 65535
   few_rules = let most : 5 + length hardware ≤ 256 = all.hardware in omega (arith, most)
 
+  few_operands : 0 + length (described s).operands ≤ 1024
+  few_operands =
+      let both : length (described s).operands ≡ length (operands_of s (described s).numbers) + length (map (bare_operand (described s).numbers (described s).fields (described s).multis) (bare_names s.at (written_in s))) =
+      joined_long (operands_of s (described s).numbers) (map (bare_operand (described s).numbers (described s).fields (described s).multis) (bare_names s.at (written_in s))) in
+      let plain : length (operands_of s (described s).numbers) ≡ length (members s operand_in) = mapped_long (operand_of (described s).numbers) (members s operand_in) in
+      let bare : length (map (bare_operand (described s).numbers (described s).fields (described s).multis) (bare_names s.at (written_in s))) ≡ length (bare_names s.at (written_in s)) =
+      mapped_long (bare_operand (described s).numbers (described s).fields (described s).multis) (bare_names s.at (written_in s)) in
+      let most : length (members s operand_in) + length (bare_names s.at (written_in s)) ≤ 1024 = all.operands in
+      omega (arith, both, plain, bare, most)
+
   -- what is built in stands before all forms
   before : IsChosen (described s) → AllHold (StandsBefore s.at Hardwares 1) built_in_hardware
   before chosen =
@@ -177,17 +189,18 @@ module _ (s : Selection) (scope : Scope) (m : Machine) (tops : List Top) (alone 
     numbers = numbers_within 0 (insns_of (described s) scope) few_insns;
     shapes = subst (λ x. of_shapes x (insns_of (described s) scope) ≡ []) is (shapes_few s scope m tops alone elements none chosen.sized);
     macros = macros_within 0 (macros_of (described s)) (short_macros s scope m tops alone elements none) few_macros;
+    operands = operands_within 0 (described s).operands (operands_short s scope m tops alone elements none chosen.at) few_operands;
     syntaxes = syntaxes_few s scope m tops alone elements none;
     texts = texts_kept s scope m tops alone elements none scope.texts texts;
   })
 
   pub numbers_law : HaveNumbers (described s)
   numbers_law = record {
-    operands = few_operands;
+    operands = few_names;
     slots = λ k w is. slots_few s scope m tops alone elements none w (record { place = k; is = is });
   } where
-    few_operands : length (all_operand_names s (written_in s)) ≤ 1024
-    few_operands =
+    few_names : length (all_operand_names s (written_in s)) ≤ 1024
+    few_names =
         let both : length (operand_names s ++ bare_names s.at (written_in s)) ≡ length (operand_names s) + length (bare_names s.at (written_in s)) = joined_long (operand_names s) (bare_names s.at (written_in s)) in
         let same : length (operand_names s) ≡ length (members s operand_in) = mapped_long (λ (form : PlainOperandForm). form.name) (members s operand_in) in
         let most : length (members s operand_in) + length (bare_names s.at (written_in s)) ≤ 1024 = all.operands in

@@ -81,6 +81,7 @@ pub record AreWithin (m : Machine) : Type 0 where
   pub insns : of_insns (spent_on_hardware m) m.insns ≡ []
   pub numbers : of_numbers 0 m.insns ≡ []
   pub shapes : of_shapes m m.insns ≡ []
+  pub operands : of_operands 0 m.operands ≡ []
   pub macros : of_macros 0 m.macros ≡ []
   pub syntaxes : of_syntaxes m.macros ≡ []
   pub texts : of_texts m ≡ []

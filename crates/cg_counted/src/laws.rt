@@ -16,9 +16,9 @@ use cg_model::Machine;
 use cg_names::Scope;
 
 /// A law of the definitions: where none of the forms is refused by itself, and none of those that take part
-/// by its data or its modes, the description's machine isn't refused in hand for what is counted, but for its
-/// operands (E308), for rules that need themselves (E314), nor for the number of its instructions (E317); and
-/// its operands and slots have numbers (docs/REFUSALS.md).
+/// by its data or its modes, the description's machine isn't refused in hand for what is counted (E308), for
+/// rules that need themselves (E314), nor for the number of its instructions (E317); and its operands and
+/// slots have numbers (docs/REFUSALS.md).
 #[tactic(auto, using(crate::proofs::Whole::counts_law))]
 pub fn counts_are_kept(
     selection: &Selection,
