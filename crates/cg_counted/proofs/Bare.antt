@@ -8,14 +8,13 @@ use Rattle.std.proofs.lemmas.Bool.Decides.{nat_tests}
 use Rattle.cg_base.specs.declared.form.Form.{Form, out-Form}
 use Rattle.cg_base.specs.declared.form.Form.TheOpen.{Symbol, Items}
 use Rattle.cg_base.specs.Parts.{◌>>=◌, Layer, symbol_of, number_of}
-use Rattle.cg_base.specs.Texts.{same_text, is_among, passes}
+use Rattle.cg_base.specs.Texts.{same_text, is_among}
 use Rattle.cg_attrs.specs.declared.frame.Frame.{Frame}
 use Rattle.cg_attrs.specs.declared.frame.Frame.TheVariants as frame
 use Rattle.cg_ifield.specs.declared.form.FieldForm.TheVariants as field
 use Rattle.cg_insn.specs.declared.form.InsnForm.TheVariants as insn
 use Rattle.cg_clean.proofs.Clauses.{equal_texts}
 use Rattle.cg_clean.proofs.Lists.{the_found}
-use Rattle.cg_choices.specs.declared.written.Anyof.{Anyof}
 use Rattle.cg_choices.specs.declared.written.Choice.{Choice}
 use Rattle.cg_choices.specs.declared.written.NamedPart.{NamedPart}
 use Rattle.cg_choices.specs.declared.written.NamedPart.TheVariants as part
@@ -23,7 +22,7 @@ use Rattle.cg_choices.specs.declared.written.Written.{Written}
 use Rattle.cg_choices.specs.declared.written.WrittenPart.{WrittenPart}
 use Rattle.cg_choices.specs.Choices.{Chosen, choice_for, part_within, parts_by, choice_of_part, parts_for, parts_with, with_choices}
 use Rattle.cg_choices.specs.Ways.{ways, most, each_choice}
-use Rattle.cg_data.specs.Selecting.{Selection, takes_part_in}
+use Rattle.cg_data.specs.Selecting.{Selection}
 use Rattle.cg_described.specs.Bare.{is_bare, bare_in, bare_names}
 use Rattle.cg_described.specs.Described.{written_in}
 use Rattle.cg_element.specs.declared.element.Element.{Element}
@@ -32,23 +31,22 @@ use Rattle.cg_element.specs.declared.kind.Kind.{Kind}
 use Rattle.cg_element.specs.declared.kind.Kind.TheVariants as kind
 use Rattle.cg_element.specs.declared.kind.Namespace.TheVariants.{Fields, Operands, Constants}
 use Rattle.cg_element.specs.Belonging.{takes_part}
-use Rattle.cg_element.specs.Elements.{kind_of, name_of, frame_kind}
+use Rattle.cg_element.specs.Elements.{kind_of, frame_kind}
 use Rattle.cg_expanded.specs.Choices.{derived_choice, plain_choice, choice_by, choice_of, known_choice, anyof_of, anyofs_of, name_of_slot, slot_name, distinct_behind, distinct}
 use Rattle.cg_expanded.specs.Expanded.{instructions_in, instructions_at, expanded_from, expanded}
 use Rattle.cg_expanded.specs.Written.{written_of}
 use Rattle.cg_insn.specs.declared.form.InstructionForm.{InstructionForm}
 use Rattle.cg_expanded.specs.Named.{element_of, derived_in, derived_named, anyof_in, anyof_named, constant_named}
-use Rattle.cg_expanded.specs.Parts.{is_fitting, is_taken, constant_part, number_part, pair_part, listed_part, value_part, is_constant, taken_part, named_part, part_in, part_of, part_before, parts_from, parts_behind, parts_of}
+use Rattle.cg_expanded.specs.Parts.{is_fitting, is_taken, constant_part, number_part, pair_part, listed_part, value_part, is_constant, taken_part, named_part, part_in, part_of, part_before, parts_from, parts_of}
 use Rattle.cg_known.specs.declared.names.Standing.{Standing}
 use Rattle.cg_known.specs.Table.{Table, standing, table_of, counted_name, first_from}
 use Rattle.cg_operand.specs.declared.form.AnyofOperandForm.{AnyofOperandForm}
 use Rattle.cg_operand.specs.declared.form.DerivedOperandForm.{DerivedOperandForm}
 use Rattle.cg_operand.specs.declared.form.OperandForm.TheVariants as operand
-use Rattle.cg_references.specs.declared.finding.Finding.{Finding}
 use Rattle.cg_references.specs.declared.finding.Finding.TheVariants.{Fitting, OfAnotherKind, Undefined}
 use Rattle.cg_references.specs.declared.reference.Place.{Place}
 use Rattle.cg_references.specs.declared.reference.Place.TheVariants as place
-use Rattle.cg_references.specs.Finding.{stands_as, is_plain_operand, is_choice, is_slot, is_field_constant, is_part, fits, is_hidden, is_attribute, is_defined, found}
+use Rattle.cg_references.specs.Finding.{stands_as, is_plain_operand, is_choice, is_slot, is_field_constant, is_part, fits, is_hidden, is_attribute, is_defined}
 use Rattle.cg_lawful.proofs.Members.{AllHold, all_append, IsIn}
 use Rattle.cg_counted.proofs.Given.{all_given, all_mapped}
 use Rattle.cg_counted.proofs.Groups.{all_so}

@@ -1,5 +1,5 @@
 -- The texts of a machine's fields, multi fields, hardware, instructions and macro instructions aren't too long.
-use Rattle.std.proofs.Common.{◌≡◌, ◌∙◌, ℕ, suc, ◌+◌, ◌==◌, true, List, [], ◌∷◌, ◌++◌, map, length, Option, Some, None, slice_get, refl, sym, ap, subst, arith}
+use Rattle.std.proofs.Common.{◌≡◌, ◌∙◌, ℕ, suc, ◌+◌, ◌==◌, true, List, [], ◌∷◌, map, length, Option, Some, None, slice_get, refl, ap, subst, arith}
 use Rattle.std.specs.List.{filter_map, cons_option}
 use Rattle.std.specs.Option.{option_map}
 use Rattle.std.proofs.lemmas.Bool.Decides.{nat_tests}
@@ -18,7 +18,7 @@ use Rattle.cg_base.specs.Parts.{◌>>=◌}
 use Rattle.cg_data.specs.Numbering.{field_in, multi_in, hardware_in}
 use Rattle.cg_data.specs.Hardware.{words, built_in}
 use Rattle.cg_described.specs.Described.{described, written_in}
-use Rattle.cg_described.specs.Texts.{is_of_form, of_form}
+use Rattle.cg_described.specs.Texts.{is_of_form}
 use Rattle.cg_element.specs.declared.element.Element.{Element}
 use Rattle.cg_element.specs.declared.element.Element.TheVariants as element
 use Rattle.cg_element.specs.Reading.{element_at, first_refusal}

@@ -1,33 +1,30 @@
 -- No count over the whole machine is passed.
-use Rattle.std.proofs.Common.{◌≡◌, ◌∙◌, ℕ, zero, suc, ◌+◌, ◌≤◌, min, true, List, [], ◌∷◌, ◌++◌, map, length, Option, Some, None, is_some, slice_get, refl, sym, ap, subst, arith}
-use Rattle.std.specs.List.{filter_map, cons_option}
-use Rattle.std.specs.Option.{option_or, option_map}
+use Rattle.std.proofs.Common.{◌≡◌, ◌∙◌, ℕ, suc, ◌+◌, ◌≤◌, List, [], ◌∷◌, ◌++◌, map, length, Option, Some, None, is_some, slice_get, refl, sym, ap, arith}
+use Rattle.std.specs.List.{filter_map}
+use Rattle.std.specs.Option.{option_or}
 use Rattle.cg_base.specs.declared.form.Top.{Top}
 use Rattle.cg_clean.proofs.Lists.{append_none}
 use Rattle.cg_counts.specs.declared.counts.Counts.{Counts}
 use Rattle.cg_counts.specs.Counts.{nothing_before, nodes_of}
 use Rattle.cg_counts.specs.E308.{of_counts, of_elements, of_others, passed}
-use Rattle.cg_data.specs.Selecting.{Selection, members, member}
-use Rattle.cg_data.specs.Hardware.{built_in, cells_of, counted}
+use Rattle.cg_data.specs.Selecting.{Selection, members}
+use Rattle.cg_data.specs.Hardware.{cells_of}
 use Rattle.cg_data.specs.Numbering.{field_in, multi_in, hardware_in, operand_in}
 use Rattle.cg_described.specs.Bare.{bare_names}
-use Rattle.cg_described.specs.Described.{Described, described, written_in}
+use Rattle.cg_described.specs.Described.{described, written_in}
 use Rattle.cg_described.specs.Texts.{all_texts}
-use Rattle.cg_element.specs.declared.element.Element.{Element}
 use Rattle.cg_element.specs.Reading.{element_at, first_refusal}
 use Rattle.cg_faults.specs.Least.{by_data, by_modes, by_elements}
 use Rattle.cg_operand.specs.declared.form.PlainOperandForm.{PlainOperandForm}
 use Rattle.cg_expanded.specs.Expanded.{expanded}
 use Rattle.cg_counts.specs.Known.{nothing, count_new}
-use Rattle.cg_insn.specs.declared.form.MacroForm.{MacroForm}
-use Rattle.cg_model.specs.faults.E308.{sum_of, all_cells}
+use Rattle.cg_model.specs.faults.E308.{sum_of}
 use Rattle.cg_model.specs.declared.machine.Machine.{Machine}
 use Rattle.cg_names.specs.declared.scope.Scope.{Scope}
-use Rattle.cg_selected.specs.Rules.{ruled_field, ruled_multi, ruled_hardware, ruled_fields, ruled_multis, ruled_hardwares}
-use Rattle.cg_selected.specs.Macros.{macro_in, macro_of, macros_of}
+use Rattle.cg_selected.specs.Macros.{macro_in}
 use Rattle.cg_lawful.proofs.Forms.{GivenAt, given_in_order}
 use Rattle.cg_described.specs.Seen.{forms_of}
-use Rattle.cg_counted.proofs.Limits.{IsCount, counts_behind, all_kept}
+use Rattle.cg_counted.proofs.Limits.{either_none, IsCount, counts_behind, all_kept}
 use Rattle.cg_counted.proofs.Together.{HaveForms, one_each, fields_together, multis_together, hardware_together, cells_together, macros_together}
 use Rattle.cg_counted.proofs.Texts.{texts_together}
 use Rattle.cg_counted.proofs.Over.{written_few}
@@ -95,10 +92,6 @@ nodes_count = record { adds = λ a b. refl; nothing = refl; kept = λ before own
 texts_count : IsCount (λ c. c.texts) 1000000
 texts_count = record { adds = λ a b. refl; nothing = refl; kept = λ before own h. (others_of before own h).texts }
 
-either_none : {A : Type 0} (a b : Option A) → option_or a b ≡ None → a ≡ None
-either_none None b e = refl
-either_none (Some x) b e = absurd cc
-
 -- What all forms that take part have together.
 pub record AreFew (s : Selection) (scope : Scope) (tops : List Top) : Type 0 where
   pub insns : length (written_in s) ≤ 4096
@@ -121,7 +114,7 @@ module _ (s : Selection) (scope : Scope) (m : Machine) (tops : List Top) (alone 
   whole = counts_behind (described s) scope nothing_before 1 s.elements tops
 
   data_none : by_data (described s) scope m tops ≡ None
-  data_none = either_none (by_data (described s) scope m tops) (by_modes (described s) scope m tops) none
+  data_none = (either_none (by_data (described s) scope m tops) (by_modes (described s) scope m tops) none).0
 
   kept : (pick : Counts → ℕ) (limit : ℕ) → IsCount pick limit → pick nothing_before.counts ≤ limit → pick whole ≤ limit
   kept pick limit is few = all_kept (described s) scope m pick limit is nothing_before 1 s.elements tops data_none few

@@ -1,16 +1,14 @@
 -- The error texts of a machine and its name aren't too long.
-use Rattle.std.proofs.Common.{◌≡◌, ◌∙◌, ℕ, zero, suc, ◌+◌, ◌≤◌, ◌==◌, Bool, true, false, ◌&&◌, ◌||◌, if◌then◌else◌, List, [], ◌∷◌, ◌++◌, map, length, Option, Some, None, slice_get, refl, sym, ap, subst, arith}
+use Rattle.std.proofs.Common.{◌≡◌, ◌∙◌, ℕ, suc, ◌+◌, ◌==◌, Bool, true, false, ◌&&◌, if◌then◌else◌, List, [], ◌∷◌, ◌++◌, length, Option, Some, None, slice_get, refl, sym, ap, subst, arith}
 use Rattle.std.specs.List.{filter_map}
 use Rattle.std.specs.Option.{option_or, option_map}
 use Rattle.std.proofs.lemmas.Bool.Decides.{nat_tests}
-use Rattle.cg_base.specs.declared.form.Form.{Form}
 use Rattle.cg_base.specs.declared.form.Top.{Top}
 use Rattle.cg_base.specs.Texts.{same_text, is_among}
 use Rattle.cg_attrs.specs.declared.frame.Frame.TheVariants.{Mach}
 use Rattle.cg_attrs.specs.declared.frame.MachForm.{MachForm}
 use Rattle.cg_clean.proofs.Clauses.{equal_texts, first_true, second_true}
 use Rattle.cg_clean.proofs.Lists.{the_found}
-use Rattle.cg_choices.specs.declared.written.Written.{Written}
 use Rattle.cg_data.specs.Selecting.{Selection, takes_part_in}
 use Rattle.cg_described.specs.Described.{described, written_in}
 use Rattle.cg_described.specs.Seen.{forms_of}
@@ -21,16 +19,16 @@ use Rattle.cg_element.specs.Elements.{kind_of}
 use Rattle.cg_element.specs.Belonging.{belongs_to_machine, takes_part}
 use Rattle.cg_element.specs.E318.{mach_in, numbered, mach_from, selected_mach}
 use Rattle.cg_element.specs.Reading.{element_at, first_refusal}
-use Rattle.cg_expanded.specs.Choices.{distinct_behind, distinct}
+use Rattle.cg_expanded.specs.Choices.{distinct_behind}
 use Rattle.cg_faults.specs.Least.{by_elements}
 use Rattle.cg_model.specs.declared.machine.Machine.{Machine}
 use Rattle.cg_model.specs.faults.E308.{long_text, long_texts, too_many}
 use Rattle.cg_names.specs.declared.scope.Scope.{Scope}
 use Rattle.cg_lawful.proofs.Members.{AllHold, all_append}
 use Rattle.cg_counted.proofs.Elements.{own_at}
-use Rattle.cg_counted.proofs.Few.{AreFew, few}
+use Rattle.cg_counted.proofs.Few.{few}
 use Rattle.cg_counted.proofs.Limits.{not_passed}
-use Rattle.cg_counted.proofs.Own.{IsShort, Unsaid, unsaid, Own}
+use Rattle.cg_counted.proofs.Own.{IsShort, unsaid, Own}
 use Rattle.cg_counted.proofs.Within.{none_joined}
 
 -- those that are kept of some
@@ -46,12 +44,12 @@ none_long [] all = refl
 none_long (t ∷ ts) all = none_joined (long_text t) (long_texts ts) all.0 (none_long ts all.1)
 
 -- What is selected by a name is an element of that name that takes part.
-record IsMach (machine : List ℕ) (number : ℕ) (es : List Element) (x : ℕ × MachForm) : Type 0 where
-  place : ℕ
-  form : x.0 ≡ number + place
-  is : slice_get es place ≡ Some (element.Frame (Mach x.1))
-  named : same_text x.1.name machine ≡ true
-  belongs : belongs_to_machine machine x.1.attrs ≡ true
+pub record IsMach (machine : List ℕ) (number : ℕ) (es : List Element) (x : ℕ × MachForm) : Type 0 where
+  pub place : ℕ
+  pub form : x.0 ≡ number + place
+  pub is : slice_get es place ≡ Some (element.Frame (Mach x.1))
+  pub named : same_text x.1.name machine ≡ true
+  pub belongs : belongs_to_machine machine x.1.attrs ≡ true
 
 record IsMachForm (machine : List ℕ) (e : Element) (mach : MachForm) : Type 0 where
   is : e ≡ element.Frame (Mach mach)
@@ -71,7 +69,7 @@ mach_is machine (element.Frame (Mach form)) mach is = by (same_text form.name ma
   by false both e = absurd cc
 mach_is machine _ mach is = absurd cc
 
-mach_found : (machine : List ℕ) (number : ℕ) (es : List Element) (x : ℕ × MachForm) → mach_from number machine es ≡ Some x → IsMach machine number es x
+pub mach_found : (machine : List ℕ) (number : ℕ) (es : List Element) (x : ℕ × MachForm) → mach_from number machine es ≡ Some x → IsMach machine number es x
 mach_found machine number [] x is = absurd cc
 mach_found machine number (e ∷ es) x is = by (mach_in machine e) refl is (mach_found machine (number + 1) es x) where
   first : (n : ℕ) → n ≡ n + 0

@@ -1,13 +1,10 @@
 -- A name leads to an element that has it and takes part.
-use Rattle.std.proofs.Common.{◌≡◌, ◌∙◌, ℕ, zero, suc, ◌+◌, Bool, true, false, ◌&&◌, if◌then◌else◌, List, [], ◌∷◌, Option, Some, None, is_some, slice_get, refl, sym, ap, subst, arith}
+use Rattle.std.proofs.Common.{◌≡◌, ℕ, suc, ◌+◌, Bool, true, false, if◌then◌else◌, List, [], ◌∷◌, Option, Some, None, slice_get, refl, subst, arith}
 use Rattle.std.specs.Option.{option_or}
-use Rattle.std.proofs.lemmas.Bool.{false≢true}
-use Rattle.cg_base.specs.Texts.{same_text, is_among}
+use Rattle.cg_base.specs.Texts.{same_text}
 use Rattle.cg_clean.proofs.Clauses.{equal_texts, first_true, second_true}
 use Rattle.cg_clean.proofs.Lists.{the_found}
-use Rattle.cg_data.specs.Selecting.{Selection, takes_part_in}
 use Rattle.cg_element.specs.declared.element.Element.{Element}
-use Rattle.cg_element.specs.declared.kind.Kind.{Kind}
 use Rattle.cg_element.specs.declared.kind.Namespace.{Namespace}
 use Rattle.cg_element.specs.Elements.{kind_of}
 use Rattle.cg_element.specs.Kinds.{namespace_of}

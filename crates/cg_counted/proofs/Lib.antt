@@ -19,4 +19,5 @@ pub mod Leading
 pub mod Ways
 pub mod Bare
 pub mod Operands
+pub mod Sized
 pub mod Whole

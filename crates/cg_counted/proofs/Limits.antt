@@ -21,7 +21,7 @@ use Rattle.cg_model.specs.declared.fault.Said.TheVariants.{Count}
 use Rattle.cg_model.specs.faults.E308.{passing}
 use Rattle.cg_model.specs.faults.Finding.{at_place, where_so}
 use Rattle.cg_names.specs.declared.scope.Scope.{Scope}
-use Rattle.cg_said.specs.Saying.{fault_said, least_said}
+use Rattle.cg_said.specs.Saying.{fault_said}
 use Rattle.cg_lawful.proofs.Clear.{none_said, nothing_said}
 
 -- what a test says, where nothing is at fault by it, and where it doesn't hold
@@ -47,7 +47,7 @@ pub none_mapped : {A B : Type 0} (f : A → B) (xs : List A) → map f xs ≡ []
 none_mapped f [] e = refl
 none_mapped f (x ∷ xs) e = absurd cc
 
-either_none : {A : Type 0} (a b : Option A) → option_or a b ≡ None → (a ≡ None) × (b ≡ None)
+pub either_none : {A : Type 0} (a b : Option A) → option_or a b ≡ None → (a ≡ None) × (b ≡ None)
 either_none None b e = (refl, e)
 either_none (Some x) b e = absurd cc
 

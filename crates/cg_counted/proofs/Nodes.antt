@@ -1,5 +1,5 @@
 -- How many nodes of expressions and how many operands the forms of a description give together.
-use Rattle.std.proofs.Common.{◌≡◌, ◌∙◌, ℕ, zero, suc, ◌+◌, Bool, true, false, if◌then◌else◌, List, [], ◌∷◌, ◌++◌, map, length, Option, Some, None, slice_get, refl, sym, ap, arith}
+use Rattle.std.proofs.Common.{◌≡◌, ◌∙◌, ℕ, suc, ◌+◌, Bool, true, false, if◌then◌else◌, List, [], ◌∷◌, ◌++◌, map, None, refl, sym, ap, arith}
 use Rattle.std.specs.List.{filter_map, flat_map}
 use Rattle.std.proofs.lemmas.Bool.{false≢true}
 use Rattle.cg_base.specs.declared.form.Top.{Top}
@@ -30,7 +30,7 @@ use Rattle.cg_selected.specs.Rules.{ruled_field, ruled_multi, ruled_hardware}
 use Rattle.cg_counted.proofs.Groups.{Grouped}
 use Rattle.cg_counted.proofs.Limits.{own_of, counts_behind}
 use Rattle.cg_counted.proofs.Names.{counted_append}
-use Rattle.cg_counted.proofs.Together.{HaveForms, weight, weighed, one_each}
+use Rattle.cg_counted.proofs.Together.{HaveForms, weight, weighed}
 
 pub sum_append : (xs ys : List ℕ) → sum_of (xs ++ ys) ≡ sum_of xs + sum_of ys
 sum_append [] ys = omega arith

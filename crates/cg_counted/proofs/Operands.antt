@@ -1,16 +1,14 @@
 -- The names of a machine's operands aren't too long.
-use Rattle.std.proofs.Common.{◌≡◌, ◌∙◌, ℕ, ◌+◌, true, List, [], ◌∷◌, ◌++◌, map, Option, Some, None, is_some, refl, sym, ap, subst}
+use Rattle.std.proofs.Common.{◌≡◌, ◌∙◌, ℕ, ◌+◌, true, List, map, Option, Some, None, is_some, refl, sym, ap, subst}
 use Rattle.std.specs.List.{filter_map}
-use Rattle.std.specs.Option.{option_or}
 use Rattle.std.proofs.lemmas.Bool.{false≢true}
 use Rattle.cg_base.specs.declared.form.Top.{Top}
-use Rattle.cg_allowed.proofs.Members.{IsMember}
 use Rattle.cg_attrs.specs.declared.frame.Frame.{Frame}
 use Rattle.cg_attrs.specs.declared.frame.Frame.TheVariants as frame
 use Rattle.cg_clean.proofs.Lists.{the_found}
 use Rattle.cg_counts.specs.E308.{kept_texts}
 use Rattle.cg_choices.specs.declared.written.Written.{Written}
-use Rattle.cg_data.specs.Selecting.{Selection, takes_part_in, members}
+use Rattle.cg_data.specs.Selecting.{Selection, members}
 use Rattle.cg_data.specs.Numbering.{operand_in}
 use Rattle.cg_data.specs.Operands.{operand_of}
 use Rattle.cg_described.specs.Bare.{bare_names, bare_operand}

@@ -1,5 +1,5 @@
 -- A description without a fault has 4,096 instructions at most.
-use Rattle.std.proofs.Common.{◌≡◌, ◌∙◌, ℕ, zero, suc, ◌+◌, ◌≤◌, ◌<◌, Bool, true, ◌==◌, if◌then◌else◌, List, [], ◌∷◌, map, length, Option, Some, None, slice_get, refl, sym, ap, inl, inr, arith, codes}
+use Rattle.std.proofs.Common.{◌≡◌, ◌∙◌, ℕ, zero, suc, ◌+◌, ◌≤◌, ◌<◌, true, ◌==◌, if◌then◌else◌, List, [], ◌∷◌, map, length, Option, Some, None, slice_get, refl, sym, ap, inl, inr, arith, codes}
 use Rattle.std.specs.List.{filter_map, cons_option}
 use Rattle.std.specs.Option.{option_map}
 use Rattle.std.proofs.lemmas.Bool.{cases_lt}
@@ -17,15 +17,13 @@ use Rattle.cg_element.specs.Reading.{element_at, first_refusal}
 use Rattle.cg_expanded.specs.E317.{form_over, e317}
 use Rattle.cg_faults.specs.Least.{faults_at, by_elements}
 use Rattle.cg_insn.specs.declared.form.InsnForm.TheVariants as insn
-use Rattle.cg_insn.specs.declared.form.InstructionForm.{InstructionForm}
-use Rattle.cg_model.specs.declared.insn.Insn.{Insn}
 use Rattle.cg_model.specs.declared.machine.Machine.{Machine}
 use Rattle.cg_names.specs.declared.scope.Scope.{Scope}
 use Rattle.cg_said.specs.Saying.{only_text}
-use Rattle.cg_selected.specs.Instructions.{insn_of, insns_of}
+use Rattle.cg_counted.proofs.Limits.{none_mapped}
 use Rattle.cg_lawful.proofs.Clear.{none_said, ClearForm, clear_form}
 use Rattle.cg_lawful.proofs.Forms.{GivenAt, given_in_order}
-use Rattle.cg_lawful.proofs.Members.{IsIn, held}
+use Rattle.cg_lawful.proofs.Members.{held}
 use Rattle.cg_lawful.proofs.Origins.{FromForm, from_forms}
 
 -- The one of a place that a list has, or none.
@@ -40,10 +38,6 @@ has (x ∷ xs) (suc k) few = let h : Has xs k = has xs k (omega (arith, few)) in
 
 same_number : (n : ℕ) → (n == n) ≡ true
 same_number n = grind (arith, nat_tests)
-
-none_mapped : {A B : Type 0} (f : A → B) (xs : List A) → map f xs ≡ [] → xs ≡ []
-none_mapped f [] e = refl
-none_mapped f (x ∷ xs) e = absurd cc
 
 pub fewer : {A B : Type 0} (f : A → Option B) (xs : List A) → length (filter_map f xs) ≤ length xs
 fewer f [] = omega arith

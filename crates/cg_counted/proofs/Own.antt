@@ -1,5 +1,5 @@
--- What is said of a form that takes part under E305, E308 and E314: nothing.
-use Rattle.std.proofs.Common.{◌≡◌, ◌∙◌, ℕ, ◌+◌, true, List, [], ◌∷◌, ◌++◌, map, Option, Some, None, slice_get, refl, sym, ap}
+-- What is said of a form that takes part under E303, E305, E308 and E314: nothing.
+use Rattle.std.proofs.Common.{◌≡◌, ◌∙◌, ℕ, ◌+◌, true, List, [], ◌∷◌, ◌++◌, map, Some, None, slice_get, refl, sym, ap}
 use Rattle.std.specs.List.{filter_map}
 use Rattle.cg_base.specs.declared.form.Top.{Top}
 use Rattle.cg_base.specs.Refusing.{least}
@@ -9,6 +9,7 @@ use Rattle.cg_counts.specs.declared.counts.Counts.{Counts}
 use Rattle.cg_counts.specs.Counts.{counts_at, texts_of}
 use Rattle.cg_counts.specs.E308.{of_counts, of_own, of_texts, of_clauses, kept_texts, all_of, e308}
 use Rattle.cg_counts.specs.E314.{e314}
+use Rattle.cg_counts.specs.Frames.{e303}
 use Rattle.cg_choices.specs.declared.written.Written.{Written}
 use Rattle.cg_data.specs.Selecting.{takes_part_in}
 use Rattle.cg_described.specs.Described.{Described}
@@ -53,6 +54,7 @@ pub record Unsaid (d : Described) (scope : Scope) (m : Machine) (place : ℕ) (e
   pub clauses : of_clauses d scope m (place + 1) e (of_form (place + 1) d.written) (clauses_of (kind_of e) top.form) ≡ []
   pub rules : e314 d m e ≡ []
   pub names : e305 d.selection.at (place + 1) e top.form ≡ []
+  pub arch : e303 d.selection (place + 1) ≡ []
 
 pub unsaid : (d : Described) (scope : Scope) (m : Machine) (tops : List Top) → by_elements d scope m tops ≡ None
     → (place : ℕ) (e : Element) (top : Top) → slice_get d.selection.elements place ≡ Some e → slice_get tops place ≡ Some top → takes_part_in d.selection e ≡ true → Unsaid d scope m place e top
@@ -73,6 +75,7 @@ unsaid d scope m tops none place e top at on part =
       clauses = both.1;
       rules = none_said (faults_at d scope m c.before.counts more (place + 1) e top.form ws) c.values 11 314 (e314 d m e) refl;
       names = none_mapped only_text (e305 d.selection.at (place + 1) e top.form) (none_said (faults_at d scope m c.before.counts more (place + 1) e top.form ws) c.values 2 305 (map only_text (e305 d.selection.at (place + 1) e top.form)) refl);
+      arch = none_said (faults_at d scope m c.before.counts more (place + 1) e top.form ws) c.values 0 303 (e303 d.selection (place + 1)) refl;
     }
 
 -- The same of the form that gives an element that takes part.
@@ -84,10 +87,11 @@ pub record Own (d : Described) (scope : Scope) (m : Machine) (place : ℕ) (e : 
   pub clauses : of_clauses d scope m (place + 1) e (of_form (place + 1) d.written) (clauses_of (kind_of e) top.form) ≡ []
   pub rules : e314 d m e ≡ []
   pub names : e305 d.selection.at (place + 1) e top.form ≡ []
+  pub arch : e303 d.selection (place + 1) ≡ []
 
 pub own : (d : Described) (scope : Scope) (m : Machine) (tops : List Top) → first_refusal tops ≡ None → d.selection.elements ≡ filter_map element_at tops → by_elements d scope m tops ≡ None
     → (e : Element) (x : IsElement d.selection.elements e) → takes_part_in d.selection e ≡ true → Own d scope m x.place e
 own d scope m tops alone elements none e x part =
     let g : GivenAt tops x.place e = given_in_order tops x.place e alone (ap (λ es. slice_get es x.place) (sym elements) ∙ x.is) in
     let u : Unsaid d scope m x.place e g.top = unsaid d scope m tops none x.place e g.top x.is g.on part in
-    record { top = g.top; is = g.is; clear = g.clear; texts = u.texts; clauses = u.clauses; rules = u.rules; names = u.names }
+    record { top = g.top; is = g.is; clear = g.clear; texts = u.texts; clauses = u.clauses; rules = u.rules; names = u.names; arch = u.arch }

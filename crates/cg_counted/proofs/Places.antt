@@ -1,12 +1,11 @@
 -- Where each name stands at its own form, no two have one name: the place of a name among all is that of what has it.
-use Rattle.std.proofs.Common.{◌≡◌, ◌∙◌, ℕ, zero, suc, ◌+◌, ◌≤◌, ◌==◌, ◌&&◌, Bool, true, false, if◌then◌else◌, List, [], ◌∷◌, ◌++◌, map, length, Option, Some, None, slice_get, refl, sym, ap, subst, arith}
+use Rattle.std.proofs.Common.{◌≡◌, ◌∙◌, ℕ, suc, ◌+◌, ◌≤◌, ◌==◌, Bool, true, false, if◌then◌else◌, List, [], ◌∷◌, ◌++◌, map, length, Option, Some, None, slice_get, refl, sym, ap, subst, arith}
 use Rattle.std.specs.List.{filter_map, cons_option}
 use Rattle.std.specs.Option.{option_map}
 use Rattle.std.specs.Cmp.Lexicographic.{bytes_decides}
 use Rattle.std.proofs.lemmas.Bool.{false≢true}
 use Rattle.std.proofs.lemmas.Bool.Decides.{nat_tests}
-use Rattle.cg_base.specs.Texts.{same_text, passes}
-use Rattle.cg_allowed.proofs.Framing.{IsElement}
+use Rattle.cg_base.specs.Texts.{same_text}
 use Rattle.cg_allowed.proofs.Members.{IsMember}
 use Rattle.cg_clean.proofs.Clauses.{equal_texts, first_true}
 use Rattle.cg_data.specs.Selecting.{Selection, takes_part_in, member, members}

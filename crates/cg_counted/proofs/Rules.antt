@@ -1,12 +1,9 @@
 -- No rule of a machine's hardware needs itself, where nothing is said of its forms.
-use Rattle.std.proofs.Common.{◌≡◌, ◌∙◌, ℕ, zero, suc, ◌+◌, ◌≤◌, ◌*◌, min, Bool, true, false, ◌||◌, if◌then◌else◌, List, [], ◌∷◌, ◌++◌, map, length, Option, Some, None, slice_get, refl, sym, ap, subst, arith}
+use Rattle.std.proofs.Common.{◌≡◌, ◌∙◌, ℕ, zero, suc, ◌+◌, ◌≤◌, ◌*◌, min, Bool, true, false, ◌||◌, if◌then◌else◌, List, [], ◌∷◌, ◌++◌, map, length, Option, Some, None, slice_get, refl, sym, ap, arith}
 use Rattle.std.specs.Prelude.{codes}
 use Rattle.std.specs.List.{filter_map, find, cons_option}
 use Rattle.std.specs.Option.{option_map}
-use Rattle.std.proofs.lemmas.Bool.{false≢true}
-use Rattle.cg_base.specs.declared.form.Form.{Form}
 use Rattle.cg_base.specs.declared.form.Top.{Top}
-use Rattle.cg_base.specs.Parts.{headed}
 use Rattle.cg_base.specs.Refusing.{least}
 use Rattle.cg_base.specs.Texts.{same_text}
 use Rattle.cg_allowed.proofs.Hardware.{hardware_given}
@@ -42,8 +39,8 @@ use Rattle.cg_model.specs.faults.E314.{one_leads, leads_in, needs, needs_itself,
 use Rattle.cg_model.specs.faults.Finding.{at_place, where_so}
 use Rattle.cg_names.specs.Names.{place_of}
 use Rattle.cg_names.specs.declared.scope.Scope.{Scope}
-use Rattle.cg_references.specs.Clauses.{clauses_in, clauses_of}
-use Rattle.cg_repeated.specs.E305.{stands_here, own_repeated, constants_repeated, unit_repeated, repeated_in, repeated_at, repeated_behind, e305}
+use Rattle.cg_references.specs.Clauses.{clauses_in}
+use Rattle.cg_repeated.specs.E305.{stands_here, own_repeated, constants_repeated, unit_repeated, repeated_in, repeated_at, repeated_behind}
 use Rattle.cg_said.specs.Saying.{fault_said}
 use Rattle.cg_selected.specs.Machines.{machine_of}
 use Rattle.cg_selected.specs.Rules.{ruled_hardware}

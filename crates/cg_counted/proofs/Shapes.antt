@@ -6,16 +6,15 @@ use Rattle.std.specs.Option.{option_map}
 use Rattle.cg_base.specs.declared.form.Form.{Form}
 use Rattle.cg_base.specs.declared.form.Form.TheVariants.{Items}
 use Rattle.cg_base.specs.declared.form.Top.{Top}
-use Rattle.cg_base.specs.Parts.{headed}
 use Rattle.cg_base.specs.Refusing.{least}
 use Rattle.cg_allowed.proofs.Members.{IsMember}
 use Rattle.cg_attrs.specs.declared.frame.ModelForm.{ModelForm}
-use Rattle.cg_attrs.specs.Clauses.{Clause, clauses, clause_faults, content_at}
+use Rattle.cg_attrs.specs.Clauses.{clauses, clause_faults, content_at}
 use Rattle.cg_attrs.specs.Judging.{own_faults, form_faults}
 use Rattle.cg_clean.proofs.Clauses.{Stands, StandsWith, looked_up}
 use Rattle.cg_clean.proofs.Insns.{insn_by as insn_by_form}
 use Rattle.cg_clean.proofs.Lists.{append_none, the_found}
-use Rattle.cg_counts.specs.E308.{in_clause, of_clauses, of_pieces, of_slots, of_bytes, of_cycles, of_time, of_macro_syntax}
+use Rattle.cg_counts.specs.E308.{in_clause, of_pieces, of_slots, of_bytes, of_cycles, of_time, of_macro_syntax}
 use Rattle.cg_choices.specs.declared.written.NamedPart.{NamedPart}
 use Rattle.cg_choices.specs.declared.written.NamedPart.TheVariants as named
 use Rattle.cg_choices.specs.declared.written.Written.{Written}
@@ -33,7 +32,6 @@ use Rattle.cg_faults.specs.Least.{by_elements}
 use Rattle.cg_insn.specs.Contents.{wrong, left_out}
 use Rattle.cg_insn.specs.Instructions as forms
 use Rattle.cg_insn.specs.Tables.{heads, kind_named, rows_of, table_of}
-use Rattle.cg_insn.specs.declared.form.InsnForm.{InsnForm}
 use Rattle.cg_insn.specs.declared.form.InsnForm.TheVariants as insn
 use Rattle.cg_insn.specs.declared.form.InstructionForm.{InstructionForm}
 use Rattle.cg_insn.specs.declared.form.MacroForm.{MacroForm}

@@ -1,14 +1,12 @@
 -- How many error texts all forms give together.
-use Rattle.std.proofs.Common.{◌≡◌, ◌∙◌, ℕ, suc, ◌+◌, Bool, true, false, if◌then◌else◌, List, [], ◌∷◌, ◌++◌, map, length, Option, Some, None, is_some, slice_get, refl, sym, ap, arith}
+use Rattle.std.proofs.Common.{◌≡◌, ◌∙◌, ℕ, suc, ◌+◌, Bool, true, false, if◌then◌else◌, List, [], ◌∷◌, ◌++◌, length, refl, sym, ap, arith}
 use Rattle.std.proofs.lemmas.Bool.{false≢true}
-use Rattle.cg_base.specs.declared.form.Form.{Form}
 use Rattle.cg_base.specs.declared.form.Top.{Top}
-use Rattle.cg_counts.specs.declared.counts.Counts.{Counts}
 use Rattle.cg_counts.specs.Counts.{Before, counts_by, bare_of, texts_of}
 use Rattle.cg_counts.specs.Counts as counts
-use Rattle.cg_counts.specs.Known.{Standing, nothing, with_all, count_new}
+use Rattle.cg_counts.specs.Known.{nothing, with_all, count_new}
 use Rattle.cg_choices.specs.declared.written.Written.{Written}
-use Rattle.cg_data.specs.Selecting.{Selection, takes_part_in}
+use Rattle.cg_data.specs.Selecting.{takes_part_in}
 use Rattle.cg_described.specs.Described.{Described}
 use Rattle.cg_described.specs.Texts.{texts_by_kind, texts_with, of_form, by_form, texts_from, all_texts}
 use Rattle.cg_element.specs.declared.element.Element.{Element}

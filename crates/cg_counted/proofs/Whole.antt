@@ -1,12 +1,12 @@
 -- All of it together: no element of the machine is refused by its counts.
-use Rattle.std.proofs.Common.{◌≡◌, ◌∙◌, ℕ, suc, ◌+◌, ◌≤◌, min, List, [], ◌∷◌, ◌++◌, map, length, Option, Some, None, refl, sym, ap, subst, arith}
+use Rattle.std.proofs.Common.{◌≡◌, ◌∙◌, ℕ, ◌+◌, ◌≤◌, min, true, List, [], ◌∷◌, ◌++◌, map, length, Option, Some, None, refl, sym, ap, subst, arith}
 use Rattle.std.specs.List.{filter_map, cons_option}
 use Rattle.std.specs.Option.{option_map, unwrap_or}
 use Rattle.cg_base.specs.declared.form.Top.{Top}
 use Rattle.cg_counts.specs.Counts.{nodes_of}
 use Rattle.cg_choices.specs.declared.written.Written.{Written}
 use Rattle.cg_data.specs.Selecting.{Selection, members}
-use Rattle.cg_data.specs.Hardware.{built_in, cells_of}
+use Rattle.cg_data.specs.Hardware.{cells_of}
 use Rattle.cg_data.specs.Operands.{operand_of, operands_of}
 use Rattle.cg_data.specs.Numbering.{field_in, multi_in, hardware_in, operand_in, operand_names}
 use Rattle.cg_operand.specs.declared.form.PlainOperandForm.{PlainOperandForm}
@@ -30,7 +30,7 @@ use Rattle.cg_selected.specs.Rules.{ruled_field, ruled_multi, ruled_hardware, ru
 use Rattle.cg_element.specs.declared.kind.Kind.TheVariants as kind
 use Rattle.cg_element.specs.declared.kind.Namespace.TheVariants.{Hardwares}
 use Rattle.cg_known.specs.Table.{standing, table_of, built_in_hardware}
-use Rattle.cg_counted.specs.InHand.{of_rules, of_shapes, IsChosen, AreWithin, HaveNumbers}
+use Rattle.cg_counted.specs.InHand.{of_rules, of_shapes, IsChosen, AreWithin, AreKnown}
 use Rattle.cg_counted.proofs.Few.{AreFew, few, mapped_long}
 use Rattle.cg_counted.proofs.Nodes.{of_fields, of_multis, of_hardwares}
 use Rattle.cg_counted.proofs.Groups.{all_so}
@@ -42,6 +42,7 @@ use Rattle.cg_counted.proofs.Rules.{members_clear, built_in_clear}
 use Rattle.cg_counted.proofs.Shapes.{shapes_few, slots_few, syntaxes_few}
 use Rattle.cg_lawful.proofs.Members.{AllHold}
 use Rattle.cg_counted.proofs.Elements.{short_fields, short_multis, few_hardware, short_insns, short_macros}
+use Rattle.cg_counted.proofs.Sized.{sizes_known}
 use Rattle.cg_counted.proofs.Within.{operands_within, fields_within, multis_within, hardware_within, insns_within, macros_within, numbers_within}
 
 -- The nodes of a machine's elements are those that are counted by its forms.
@@ -168,7 +169,7 @@ module _ (s : Selection) (scope : Scope) (m : Machine) (tops : List Top) (alone 
       omega (arith, both, plain, bare, most)
 
   -- what is built in stands before all forms
-  before : IsChosen (described s) → AllHold (StandsBefore s.at Hardwares 1) built_in_hardware
+  before : IsChosen s → AllHold (StandsBefore s.at Hardwares 1) built_in_hardware
   before chosen =
       all_so (λ name. table_of s.machine s.isa s.elements Hardwares name ≡ Some (standing 0 0 kind.Hardware)) (StandsBefore s.at Hardwares 1)
       (λ name is. record { standing = standing 0 0 kind.Hardware; is = ap (λ at. at Hardwares name) chosen.at ∙ is; before = first }) built_in_hardware
@@ -176,8 +177,11 @@ module _ (s : Selection) (scope : Scope) (m : Machine) (tops : List Top) (alone 
         first : 1 ≤ 1
         first = omega arith
 
+  sized : IsChosen s → (described s).framing.is_sized ≡ true
+  sized chosen = sizes_known s scope m tops alone elements none chosen.at chosen.mach chosen.isa
+
   -- of the machine in hand
-  pub within_law : IsChosen (described s) → m ≡ machine_of (described s) scope → scope.texts ≡ all_texts s (forms_of tops) (written_in s) → AreWithin m
+  pub within_law : IsChosen s → m ≡ machine_of (described s) scope → scope.texts ≡ all_texts s (forms_of tops) (written_in s) → AreWithin m
   within_law chosen is texts = subst AreWithin (sym is) (record {
     name = name_kept s scope m tops alone elements none chosen.mach;
     fields = fields_within 0 0 (ruled_fields (described s) scope) (short_fields s scope m tops alone elements none) few_fields first_nodes;
@@ -187,15 +191,16 @@ module _ (s : Selection) (scope : Scope) (m : Machine) (tops : List Top) (alone 
         (subst (λ x. of_rules x 5 (map (ruled_hardware (described s) scope) hardware) ≡ []) is (members_clear s scope m tops alone elements none (before chosen) few_rules));
     insns = insns_within ((all_field_nodes (ruled_fields (described s) scope) + all_multi_nodes (ruled_multis (described s) scope)) + all_hardware_nodes (ruled_hardwares (described s) scope)) (insns_of (described s) scope) (short_insns s scope m tops alone elements none) last_nodes;
     numbers = numbers_within 0 (insns_of (described s) scope) few_insns;
-    shapes = subst (λ x. of_shapes x (insns_of (described s) scope) ≡ []) is (shapes_few s scope m tops alone elements none chosen.sized);
+    shapes = subst (λ x. of_shapes x (insns_of (described s) scope) ≡ []) is (shapes_few s scope m tops alone elements none (sized chosen));
     macros = macros_within 0 (macros_of (described s)) (short_macros s scope m tops alone elements none) few_macros;
     operands = operands_within 0 (described s).operands (operands_short s scope m tops alone elements none chosen.at) few_operands;
     syntaxes = syntaxes_few s scope m tops alone elements none;
     texts = texts_kept s scope m tops alone elements none scope.texts texts;
   })
 
-  pub numbers_law : HaveNumbers (described s)
-  numbers_law = record {
+  pub known_law : IsChosen s → AreKnown (described s)
+  known_law chosen = record {
+    sized = sized chosen;
     operands = few_names;
     slots = λ k w is. slots_few s scope m tops alone elements none w (record { place = k; is = is });
   } where
@@ -207,11 +212,11 @@ module _ (s : Selection) (scope : Scope) (m : Machine) (tops : List Top) (alone 
         omega (arith, both, same, most)
 
 -- of a machine and a description that are known to be those of a selection
-pub within_of : (d : Described) (s : Selection) (scope : Scope) (m : Machine) (tops : List Top) → d ≡ described s → scope ≡ whole_scope s (forms_of tops) → m ≡ machine_of d scope → first_refusal tops ≡ None → s.elements ≡ filter_map element_at tops → by_elements d scope m tops ≡ None → IsChosen d → AreWithin m
+pub within_of : (d : Described) (s : Selection) (scope : Scope) (m : Machine) (tops : List Top) → d ≡ described s → scope ≡ whole_scope s (forms_of tops) → m ≡ machine_of d scope → first_refusal tops ≡ None → s.elements ≡ filter_map element_at tops → by_elements d scope m tops ≡ None → IsChosen s → AreWithin m
 within_of d s scope m tops same names is alone elements none chosen =
-    within_law s scope m tops alone elements (subst (λ x. by_elements x scope m tops ≡ None) same none) (subst IsChosen same chosen) (is ∙ ap (λ x. machine_of x scope) same) (ap (λ (x : Scope). x.texts) names)
+    within_law s scope m tops alone elements (subst (λ x. by_elements x scope m tops ≡ None) same none) chosen (is ∙ ap (λ x. machine_of x scope) same) (ap (λ (x : Scope). x.texts) names)
 
-pub numbers_of : (d : Described) (s : Selection) (scope : Scope) (m : Machine) (tops : List Top) → d ≡ described s → first_refusal tops ≡ None → s.elements ≡ filter_map element_at tops → by_elements d scope m tops ≡ None → HaveNumbers d
-numbers_of d s scope m tops same alone elements none = subst HaveNumbers (sym same) (numbers_law s scope m tops alone elements (subst (λ x. by_elements x scope m tops ≡ None) same none))
+pub known_of : (d : Described) (s : Selection) (scope : Scope) (m : Machine) (tops : List Top) → d ≡ described s → first_refusal tops ≡ None → s.elements ≡ filter_map element_at tops → by_elements d scope m tops ≡ None → IsChosen s → AreKnown d
+known_of d s scope m tops same alone elements none chosen = subst AreKnown (sym same) (known_law s scope m tops alone elements (subst (λ x. by_elements x scope m tops ≡ None) same none) chosen)
 
-pub ruleset counts_law = (within_of, numbers_of)
+pub ruleset counts_law = (within_of, known_of)

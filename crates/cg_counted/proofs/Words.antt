@@ -1,5 +1,5 @@
 -- The words of hardware of which nothing is said aren't too many.
-use Rattle.std.proofs.Common.{◌≡◌, ◌∙◌, ℕ, ◌+◌, true, false, if◌then◌else◌, List, [], ◌∷◌, length, is_some, Option, Some, None, refl, sym, ap, subst}
+use Rattle.std.proofs.Common.{◌≡◌, ◌∙◌, ℕ, ◌+◌, if◌then◌else◌, List, [], length, is_some, Option, Some, None, refl, sym, ap, subst}
 use Rattle.std.specs.Prelude.{codes}
 use Rattle.std.specs.List.{flat_map}
 use Rattle.std.specs.Option.{option_or, option_map}
@@ -8,7 +8,7 @@ use Rattle.cg_base.specs.declared.form.Form.TheVariants.{Items}
 use Rattle.cg_base.specs.Parts.{◌>>=◌, headed}
 use Rattle.cg_base.specs.Refusing.{least}
 use Rattle.cg_base.specs.Texts.{same_text}
-use Rattle.cg_attrs.specs.Clauses.{Clause, clauses, content_at}
+use Rattle.cg_attrs.specs.Clauses.{clauses, content_at}
 use Rattle.cg_clean.proofs.Clauses.{StandsWith, looked_up}
 use Rattle.cg_clean.proofs.Hardware.{hardware_by}
 use Rattle.cg_counts.specs.E308.{in_clause, of_clauses, gives_words}

@@ -1,9 +1,10 @@
 -- What a machine in hand is refused for by its counts (E308), by rules that need themselves (E314) and by the number of its instructions
 -- (E317): of each kind of elements, in their order, behind so many of their kind and so many nodes of expressions.
 use Rattle.std.specs.Prelude.{◌≡◌, ◌≤◌, ℕ, suc, ◌+◌, true, List, [], ◌∷◌, ◌++◌, length, Some, slice_get}
-use Rattle.cg_element.specs.E318.{selected_mach}
+use Rattle.cg_element.specs.E318.{selected_arch, selected_isa, selected_mach}
 use Rattle.cg_known.specs.Table.{table_of}
 use Rattle.cg_choices.specs.declared.written.Written.{Written}
+use Rattle.cg_data.specs.Selecting.{Selection}
 use Rattle.cg_described.specs.Described.{Described, all_operand_names}
 use Rattle.cg_selected.specs.Instructions.{slot_names}
 use Rattle.cg_model.specs.declared.field.Field.{Field}
@@ -64,12 +65,11 @@ abbrev pub of_numbers : ℕ → List Insn → Faults
 of_numbers before [] = []
 of_numbers before (i ∷ is) = too_many_insns before ++ of_numbers (suc before) is
 
--- What other laws have to say of a description: its machine's form is the one that is selected, names lead to where they stand, and the
--- machine's sizes are known.
-pub record IsChosen (d : Described) : Type 0 where
-  pub mach : selected_mach d.selection.machine d.selection.elements ≡ Some (d.selection.form, d.selection.mach)
-  pub at : d.selection.at ≡ table_of d.selection.machine d.selection.isa d.selection.elements
-  pub sized : d.framing.is_sized ≡ true
+-- The form of the machine is the one that is selected, the instruction set is the first of its own, and names lead to where they stand.
+pub record IsChosen (s : Selection) : Type 0 where
+  pub mach : selected_mach s.machine s.elements ≡ Some (s.form, s.mach)
+  pub isa : s.isa ≡ selected_isa s.mach (selected_arch s.machine s.elements)
+  pub at : s.at ≡ table_of s.machine s.isa s.elements
 
 -- A machine is refused for none of these.
 pub record AreWithin (m : Machine) : Type 0 where
@@ -86,7 +86,8 @@ pub record AreWithin (m : Machine) : Type 0 where
   pub syntaxes : of_syntaxes m.macros ≡ []
   pub texts : of_texts m ≡ []
 
--- There are numbers for all operands, and for all slots of an instruction.
-pub record HaveNumbers (d : Described) : Type 0 where
+-- The machine's sizes are known, and there are numbers for all operands, and for all slots of an instruction.
+pub record AreKnown (d : Described) : Type 0 where
+  pub sized : d.framing.is_sized ≡ true
   pub operands : length (all_operand_names d.selection d.written) ≤ 1024
   pub slots : (k : ℕ) (w : Written) → slice_get d.written k ≡ Some w → length (slot_names d w) ≤ 16
