@@ -57,7 +57,7 @@ use Rattle.cg_counted.proofs.Kept.{distinct_short}
 use Rattle.cg_counted.proofs.Ways.{all_taken, chosen_for, operands_of, IsWay, all_ways}
 
 -- what a place takes fits it
-taken_fits : (at : Table) (p : Place) (name : List ℕ) → is_taken at p name ≡ true → fits at p name ≡ true
+pub taken_fits : (at : Table) (p : Place) (name : List ℕ) → is_taken at p name ≡ true → fits at p name ≡ true
 taken_fits at p name taken = by (is_hidden p name) (fits at p name) (is_attribute p) (is_defined at name) taken where
   by : (hidden fitting attribute defined : Bool) → is_fitting (if hidden then Undefined else if fitting then Fitting else if attribute then Undefined else if defined then OfAnotherKind else Undefined) ≡ true → fitting ≡ true
   by true fitting attribute defined e = absurd (false≢true e)
@@ -127,7 +127,7 @@ parts_slots at es p P h item (f ∷ fs) = by (part_of at es p f) refl (parts_slo
   by (Some q) is rest = (h _ (λ name slot. part_slot at es p f q name is slot), rest)
 
 -- the choice for an operand is one of those that are made
-choice_good : (Good : Choice → Type 0) (name : List ℕ) (cs : List Chosen) (c : Choice) → AllHold (λ x. Good x.choice) cs → choice_for name cs ≡ Some c → Good c
+pub choice_good : (Good : Choice → Type 0) (name : List ℕ) (cs : List Chosen) (c : Choice) → AllHold (λ x. Good x.choice) cs → choice_for name cs ≡ Some c → Good c
 choice_good Good name [] c all is = absurd cc
 choice_good Good name (x ∷ xs) c all is = by (same_text x.operand name) is (choice_good Good name xs c all.1) where
   by : (b : Bool) → (if b then Some x.choice else choice_for name xs) ≡ Some c → (choice_for name xs ≡ Some c → Good c) → Good c
@@ -142,7 +142,7 @@ none_chosen name (x ∷ xs) none = by (same_text x.operand name) none (none_chos
   by false e rest = rest e
 
 -- names that stand among some stand among them each once
-or_true : (a : Bool) → (a || true) ≡ true
+pub or_true : (a : Bool) → (a || true) ≡ true
 or_true true = refl
 or_true false = refl
 
@@ -158,7 +158,7 @@ or_back : (a b c : Bool) → ((a || b) || c) ≡ true → (a || (b || c)) ≡ tr
 or_back true b c e = refl
 or_back false b c e = e
 
-distinct_among : (before xs : List (List ℕ)) (name : List ℕ) → (is_among before name || is_among xs name) ≡ true → (is_among before name || is_among (distinct_behind before xs) name) ≡ true
+pub distinct_among : (before xs : List (List ℕ)) (name : List ℕ) → (is_among before name || is_among xs name) ≡ true → (is_among before name || is_among (distinct_behind before xs) name) ≡ true
 distinct_among before [] name h = h
 distinct_among before (x ∷ xs) name h = by (is_among before x) refl (distinct_among before xs name) (distinct_among (before ++ x ∷ []) xs name) where
   there : (b : Bool) → same_text x name ≡ b → is_among before x ≡ true → (is_among before name || (b || is_among xs name)) ≡ true → (is_among before name || is_among xs name) ≡ true
@@ -175,7 +175,7 @@ distinct_among before (x ∷ xs) name h = by (is_among before x) refl (distinct_
       sym (ap (λ b. b || is_among (distinct_behind (before ++ x ∷ []) xs) name) (among_more before x name)) ∙ within more in
       or_back (is_among before name) (same_text x name) (is_among (distinct_behind (before ++ x ∷ []) xs) name) whole
 
-slot_among : (ps : List WrittenPart) (k : ℕ) (p : WrittenPart) (name : List ℕ) → slice_get ps k ≡ Some p → slot_name p ≡ Some name → is_among (filter_map slot_name ps) name ≡ true
+pub slot_among : (ps : List WrittenPart) (k : ℕ) (p : WrittenPart) (name : List ℕ) → slice_get ps k ≡ Some p → slot_name p ≡ Some name → is_among (filter_map slot_name ps) name ≡ true
 slot_among [] k p name is slot = absurd cc
 slot_among (q ∷ qs) zero p name is slot =
     ap (λ o. is_among (cons_option o (filter_map slot_name qs)) name) (ap slot_name (the_found q p is) ∙ slot) ∙ ap (λ b. b || is_among (filter_map slot_name qs) name) ((bytes_decides name name).1 refl)
@@ -256,7 +256,7 @@ is_derived (element.Insn (insn.Macro f)) is = absurd cc
 
 module _ (s : Selection) (table : s.at ≡ table_of s.machine s.isa s.elements) (short : (name : List ℕ) → is_some (s.at Fields name) ≡ true → IsShort name) where
   -- the element of an operand's name
-  operand_leads : (name : List ℕ) (st : Standing) → s.at Operands name ≡ Some st → (st.kind ≡ kind.Pc → ⊥) → Leads s.machine s.isa s.elements 1 Operands name st
+  pub operand_leads : (name : List ℕ) (st : Standing) → s.at Operands name ≡ Some st → (st.kind ≡ kind.Pc → ⊥) → Leads s.machine s.isa s.elements 1 Operands name st
   operand_leads name st is other = by (same_text (codes "pc") name) (sym (ap (λ at. at Operands name) table) ∙ is) where
     by : (b : Bool) → option_or (if b then Some (standing 0 0 kind.Pc) else None) (first_from s.machine s.isa Operands name 1 s.elements) ≡ Some st → Leads s.machine s.isa s.elements 1 Operands name st
     by true e = absurd (other (ap (λ (x : Standing). x.kind) (sym (the_found (standing 0 0 kind.Pc) st e))))

@@ -63,7 +63,7 @@ names_long : (d : Described) (names : List (List ℕ)) → length (slot_operands
 names_long d [] = refl
 names_long d (n ∷ ns) = ap suc (names_long d ns)
 
-parts_long : (d : Described) (names : List (List ℕ)) (ps : List WrittenPart) → length (slot_operands (map (part_in d) ps ++ map (slot_part d) names)) ≡ length (filter_map slot_name ps ++ names)
+pub parts_long : (d : Described) (names : List (List ℕ)) (ps : List WrittenPart) → length (slot_operands (map (part_in d) ps ++ map (slot_part d) names)) ≡ length (filter_map slot_name ps ++ names)
 parts_long d names [] = names_long d names
 parts_long d names (p ∷ ps) = by p.part (parts_long d names ps) where
   by : (q : NamedPart) → length (slot_operands (map (part_in d) ps ++ map (slot_part d) names)) ≡ length (filter_map slot_name ps ++ names)

@@ -76,7 +76,7 @@ cells_kept d scope (f ∷ fs) =
       least : (n most : ℕ) → min n most ≤ n
       least n most = omega arith
 
-joined_long : {A : Type 0} (xs ys : List A) → length (xs ++ ys) ≡ length xs + length ys
+pub joined_long : {A : Type 0} (xs ys : List A) → length (xs ++ ys) ≡ length xs + length ys
 joined_long [] ys = omega arith
 joined_long (x ∷ xs) ys = let rest : length (xs ++ ys) ≡ length xs + length ys = joined_long xs ys in omega (arith, rest)
 

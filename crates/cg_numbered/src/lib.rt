@@ -1,0 +1,6 @@
+//! What the elements of a machine name by numbers is there, where a description has no fault.
+#![tactic(auto)]
+
+mod laws;
+
+pub use laws::numbers_name_elements;
