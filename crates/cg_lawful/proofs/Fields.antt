@@ -51,7 +51,7 @@ use Rattle.cg_lawful.proofs.Ruled.{clause_formed}
 use Rattle.cg_lawful.proofs.Unsaid.{Unsaid, none_missing, none_of_clause}
 
 -- A coding is one list of the formals and the expression.
-abbrev behind_formals : List Form → Option Form
+abbrev pub behind_formals : List Form → Option Form
 behind_formals content = only content >>= elements_of >>= expression
 
 same_second : (fs : List Form) → contents.second fs ≡ expression fs
@@ -64,7 +64,7 @@ same_behind : (o : Option (List Form)) → (o >>= contents.second) ≡ (o >>= ex
 same_behind None = refl
 same_behind (Some fs) = same_second fs
 
-same_coding : (content : List Form) → coding (Items content) ≡ behind_formals content
+pub same_coding : (content : List Form) → coding (Items content) ≡ behind_formals content
 unfolding coding only_in
 same_coding content = ap (λ o. o >>= only >>= elements_of >>= expression) (elements_items content)
 
@@ -117,7 +117,7 @@ abbrev plain_or : PlainForm → FieldForm → PlainForm
 plain_or x (field.Plain y) = y
 plain_or x _ = x
 
-plain_opened : (f : Form) (form : PlainForm) (o : Opened kind_named field_in f (field.Plain form)) → (P : PlainForm → Type 0) → ((head : List ℕ) (elements : List Form) → headed f ≡ Some (head, elements) → P (plain_in elements)) → P form
+pub plain_opened : (f : Form) (form : PlainForm) (o : Opened kind_named field_in f (field.Plain form)) → (P : PlainForm → Type 0) → ((head : List ℕ) (elements : List Form) → headed f ≡ Some (head, elements) → P (plain_in elements)) → P form
 plain_opened f form o P all = by o.kind refl where
   by : (k : FieldKind) → o.kind ≡ k → P form
   by kind.Plain is = subst P (ap (plain_or form) (sym (ap (λ k. field_in k o.elements) is) ∙ o.gives)) (all o.head o.elements o.is)
