@@ -1,41 +1,34 @@
 //! What is at fault in a description that has a machine.
 
-ghost use Rattle.std.specs.Prelude.{◌≡◌, None, true, IfOk, ⊤};
+ghost use Rattle.std.specs.Prelude.{◌≡◌, None, ⊤};
+ghost use Rattle.std.specs.List.{filter_map};
 ghost use Rattle.cg_base.specs.Answering.{Answered};
 ghost use Rattle.cg_data.specs.Seen.{seen};
 ghost use Rattle.cg_described.specs.Described as description;
 ghost use Rattle.cg_described.specs.Seen.{seen_described};
+ghost use Rattle.cg_element.specs.Reading as reading;
+ghost use Rattle.cg_known.specs.Table.{table_of};
 ghost use Rattle.cg_desc.specs.Answering as spec;
 ghost use Rattle.cg_model.specs.Formed.{IsFormed};
 ghost use Rattle.cg_model.specs.faults.Accepted.{IsAccepted};
 ghost use Rattle.cg_model.specs.faults.Refusing as refusing;
 ghost use Rattle.cg_faults.specs.Least.{by_elements};
+ghost use Rattle.cg_selected.specs.Machines.{machine_of};
 ghost use Rattle.cg_selected.specs.Seen.{base};
 
 use crate::clash::clash_of;
 use cg_ambig::first_clash;
-use cg_base::{NoMemory, Stop, Top};
+use cg_base::{Stop, Top};
 use cg_data::Selection;
 use cg_described::{Described, describe, scope_of};
 use cg_faults::first_by_elements;
-use cg_formed::is_formed;
 use cg_model::Machine;
 use cg_names::Scope;
 use cg_refuse::first_refusal;
 use cg_selected::machine_of;
 use cg_sound::faultless_is_sound;
+use cg_whole::machine_is_formed;
 use std::alloc::Global;
-
-/// Whether a machine's values are allowed and no element of it is refused in hand.
-fn is_clear(alloc: Global, machine: &Machine) -> Result<bool, NoMemory>
-    ensures formed { IfOk result (λ clear. clear ≡ true → IsFormed machine.now) }
-    ensures elements { IfOk result (λ clear. clear ≡ true → refusing.first_refusal machine.now ≡ None) }
-{
-    if !is_formed(machine) {
-        return Ok(false);
-    }
-    Ok(first_refusal(alloc, machine)?.is_none())
-}
 
 /// What is answered of a description of which nothing but a clash may be at fault, and whose machine is
 /// clear in hand.
@@ -63,28 +56,51 @@ fn judge_clash(
     }
 }
 
-/// What is answered of a description by its machine. It isn't proved that the machine of a description
-/// without such a fault is allowed and without fault in hand: that is asked of the machine once more, and
-/// where it were not so, the answer would be `Stop::NoMemory` with no memory wanting.
+/// What is answered of a description of which no form is at fault. It isn't proved yet that its machine is
+/// without fault in hand: that is asked of the machine once more, and where it were not so, the answer would
+/// be `Stop::NoMemory` with no memory wanting.
+#[tactic(auto, using(crate::proofs::Answers::answering))]
+fn judge_machine(
+    alloc: Global,
+    described: &Described,
+    scope: &Scope,
+    machine: &Machine,
+    tops: &[Top],
+) -> Result<(), Stop>
+    requires formed { IsFormed machine.now }
+    requires elements { by_elements (seen_described described.now) (base scope.now) machine.now tops.now ≡ None }
+    ensures answer { Answered (λ _. spec.IsFaultless (seen_described described.now) (base scope.now) machine.now tops.now) (spec.Refuses (seen_described described.now) (base scope.now) machine.now tops.now) result }
+    ensures accepted { Answered (λ _. IsAccepted machine.now) (λ _. ⊤) result }
+{
+    match first_refusal(alloc, machine)? {
+        Some(_) => Err(Stop::NoMemory),
+        None => judge_clash(alloc, described, scope, machine, tops),
+    }
+}
+
+/// What is answered of a description by its machine.
 #[tactic(auto, using(crate::proofs::Answers::answering))]
 fn judge(
     alloc: Global,
+    selection: &Selection,
     described: &Described,
     scope: &mut Scope,
     machine: &Machine,
     tops: &[Top],
 ) -> Result<(), Stop>
+    requires described { seen_described described.now ≡ description.described (seen selection.now) }
+    requires alone { reading.first_refusal tops.now ≡ None }
+    requires elements { (seen selection.now).elements ≡ filter_map reading.element_at tops.now }
+    requires names { (seen selection.now).at ≡ table_of (seen selection.now).machine (seen selection.now).isa (seen selection.now).elements }
+    requires machine { machine.now ≡ machine_of (seen_described described.now) (base scope.old) }
     ensures answer { Answered (λ _. spec.IsFaultless (seen_described described.now) (base scope.old) machine.now tops.now) (spec.Refuses (seen_described described.now) (base scope.old) machine.now tops.now) result }
     ensures accepted { Answered (λ _. IsAccepted machine.now) (λ _. ⊤) result }
 {
     match first_by_elements(alloc, scope, described, machine, tops)? {
         Some(refusal) => Err(Stop::Refused(refusal)),
         None => {
-            if is_clear(alloc, machine)? {
-                Ok(judge_clash(alloc, described, scope, machine, tops)?)
-            } else {
-                Err(Stop::NoMemory)
-            }
+            machine_is_formed(selection, described, scope, machine, tops);
+            judge_machine(alloc, described, scope, machine, tops)
         }
     }
 }
@@ -93,15 +109,20 @@ fn judge(
 #[tactic(auto, using(crate::proofs::Answers::answering))]
 fn machine_by(
     alloc: Global,
+    selection: &Selection,
     described: &Described,
     scope: &mut Scope,
     tops: &[Top],
 ) -> Result<Machine, Stop>
+    requires described { seen_described described.now ≡ description.described (seen selection.now) }
+    requires alone { reading.first_refusal tops.now ≡ None }
+    requires elements { (seen selection.now).elements ≡ filter_map reading.element_at tops.now }
+    requires names { (seen selection.now).at ≡ table_of (seen selection.now).machine (seen selection.now).isa (seen selection.now).elements }
     ensures answer { spec.GivesOf (seen_described described.now) (base scope.old) tops.now result }
     ensures accepted { Answered (λ machine. IsAccepted machine) (λ _. ⊤) result }
 {
     let machine = machine_of(alloc, described, scope)?;
-    judge(alloc, described, scope, &machine, tops)?;
+    judge(alloc, selection, described, scope, &machine, tops)?;
     Ok(machine)
 }
 
@@ -113,13 +134,16 @@ fn described_machine(
     described: &Described,
     tops: &[Top],
 ) -> Result<Machine, Stop>
-    requires { seen_described described.now ≡ description.described (seen selection.now) }
+    requires described { seen_described described.now ≡ description.described (seen selection.now) }
+    requires alone { reading.first_refusal tops.now ≡ None }
+    requires elements { (seen selection.now).elements ≡ filter_map reading.element_at tops.now }
+    requires names { (seen selection.now).at ≡ table_of (seen selection.now).machine (seen selection.now).isa (seen selection.now).elements }
     ensures answer { spec.GivesSelection (seen selection.now) tops.now result }
     ensures accepted { Answered (λ machine. IsAccepted machine) (λ _. ⊤) result }
 {
     let written = described.written.as_slice();
     let mut scope = scope_of(alloc, selection, tops, &described.framing, written)?;
-    machine_by(alloc, described, &mut scope, tops)
+    machine_by(alloc, selection, described, &mut scope, tops)
 }
 
 /// What is answered of the forms of a selection's elements.
@@ -129,6 +153,9 @@ pub(crate) fn selected_machine(
     selection: &Selection,
     tops: &[Top],
 ) -> Result<Machine, Stop>
+    requires alone { reading.first_refusal tops.now ≡ None }
+    requires elements { (seen selection.now).elements ≡ filter_map reading.element_at tops.now }
+    requires names { (seen selection.now).at ≡ table_of (seen selection.now).machine (seen selection.now).isa (seen selection.now).elements }
     ensures answer { spec.GivesSelection (seen selection.now) tops.now result }
     ensures accepted { Answered (λ machine. IsAccepted machine) (λ _. ⊤) result }
 {

@@ -1,8 +1,10 @@
 //! The machine of a name.
 
-ghost use Rattle.std.specs.Prelude.{⊤};
+ghost use Rattle.std.specs.Prelude.{◌≡◌, None, ⊤};
+ghost use Rattle.std.specs.List.{filter_map};
 ghost use Rattle.cg_base.specs.Answering.{Answered};
 ghost use Rattle.cg_desc.specs.Answering as spec;
+ghost use Rattle.cg_element.specs.Reading as reading;
 ghost use Rattle.cg_model.specs.faults.Accepted.{IsAccepted};
 
 use crate::judging::selected_machine;
@@ -23,6 +25,8 @@ fn machine_at(
     number: usize,
     mach: &MachForm,
 ) -> Result<Machine, Stop>
+    requires alone { reading.first_refusal tops.now ≡ None }
+    requires elements { elements.now ≡ filter_map reading.element_at tops.now }
     ensures answer { spec.GivesAt name.now elements.now tops.now number mach.now result }
     ensures accepted { Answered (λ machine. IsAccepted machine) (λ _. ⊤) result }
 {
@@ -47,6 +51,8 @@ fn machine_among(
     tops: &[Top],
     name: &Text,
 ) -> Result<Machine, Stop>
+    requires alone { reading.first_refusal tops.now ≡ None }
+    requires elements { elements.now ≡ filter_map reading.element_at tops.now }
     ensures answer { spec.GivesMachine name.now elements.now tops.now result }
     ensures accepted { Answered (λ machine. IsAccepted machine) (λ _. ⊤) result }
 {
@@ -70,8 +76,8 @@ fn machine_among(
 /// encoded.
 ///
 /// An error `Stop::NoMemory` is want of memory; but it isn't proved yet that a machine whose description
-/// has no fault is accepted in hand. So the machine is asked once more, and one that were not accepted
-/// would be answered by `Stop::NoMemory` too, though no memory is wanting.
+/// has no fault has none in hand. So the machine is asked once more, and one that had a fault would be
+/// answered by `Stop::NoMemory` too, though no memory is wanting.
 #[tactic(auto, using(crate::proofs::Answers::reading))]
 pub fn machine(alloc: Global, forms: &Forms, name: &Text) -> Result<Machine, Stop>
     ensures answer { spec.GivesDescription name.now forms.now.tops result }

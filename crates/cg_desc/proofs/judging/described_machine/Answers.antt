@@ -14,4 +14,4 @@ pub returns-clause-answer : goal.returns-clause-answer
 returns-clause-answer c =
     let s = seen c.args.selection.now in
     let scope = c.in_ok-scope.ensures ∙ ap (scope_of s (forms_of c.args.tops.now) c.args.described.now.framing) c.as_slice-written.ensures in
-    gives_selection s c.args.tops.now (seen_described c.args.described.now) c.in_ok-scope.scope c.machine_by.result c.requires scope c.machine_by.ensures.answer
+    gives_selection s c.args.tops.now (seen_described c.args.described.now) c.in_ok-scope.scope c.machine_by.result c.requires.described scope c.machine_by.ensures.answer
