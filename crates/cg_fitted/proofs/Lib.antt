@@ -4,4 +4,11 @@ pub mod Extents
 pub mod Fields
 pub mod Insns
 pub mod Delimited
+pub mod Names
+pub mod Slots
+pub mod Distinct
+pub mod Matched
+pub mod Formats
+pub mod Tables
+pub mod Known
 pub mod Whole

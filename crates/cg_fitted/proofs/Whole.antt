@@ -1,5 +1,5 @@
 -- The bits and slots of a description's machine, where nothing is said of its forms.
-use Rattle.std.proofs.Common.{◌≡◌, ◌∙◌, ℕ, true, List, [], Option, Some, None, slice_get, sym, ap, subst}
+use Rattle.std.proofs.Common.{◌≡◌, ◌∙◌, ℕ, true, List, length, ◌≤◌, [], Option, Some, None, slice_get, sym, ap, subst}
 use Rattle.std.specs.List.{filter_map}
 use Rattle.std.specs.Option.{option_map}
 use Rattle.cg_base.specs.declared.form.Top.{Top}
@@ -16,6 +16,7 @@ use Rattle.cg_insn.specs.declared.form.InsnForm.TheVariants as insn
 use Rattle.cg_insn.specs.declared.form.InstructionForm.{InstructionForm}
 use Rattle.cg_insn.specs.declared.form.MacroForm.{MacroForm}
 use Rattle.cg_model.specs.faults.E309.{misplaced}
+use Rattle.cg_model.specs.faults.E313.{slot_operands, unmatched}
 use Rattle.cg_model.specs.declared.field.Field.{Field}
 use Rattle.cg_model.specs.declared.insn.Insn.{Insn}
 use Rattle.cg_model.specs.declared.insn.MacroInsn.{MacroInsn}
@@ -24,19 +25,24 @@ use Rattle.cg_names.specs.declared.scope.Scope.{Scope}
 use Rattle.cg_choices.specs.declared.written.Written.{Written}
 use Rattle.cg_data.specs.Selecting.{Selection, takes_part_in, members}
 use Rattle.cg_data.specs.Numbering.{field_in}
-use Rattle.cg_described.specs.Described.{Described, described, written_in}
+use Rattle.cg_described.specs.Described.{Described, all_operand_names, described, written_in}
+use Rattle.cg_formats.specs.E313.{is_lacking, in_format}
 use Rattle.cg_lawful.proofs.Members.{AllHold, IsIn, held}
 use Rattle.cg_lawful.proofs.Origins.{FromForm, from_forms}
-use Rattle.cg_selected.specs.Instructions.{insn_by, insns_of}
+use Rattle.cg_selected.specs.Instructions.{slot_names, parts_of, pieces_of, insn_by, insns_of}
 use Rattle.cg_selected.specs.Macros.{macro_in, macro_slots, target_of, macro_by, macro_of, macros_of}
 use Rattle.cg_selected.specs.Machines.{machine_of}
 use Rattle.cg_selected.specs.Rules.{ruled_field, ruled_fields}
-use Rattle.cg_fitted.specs.Fitting.{InsnFits, MacroFits, AreFitting, IsSized}
+use Rattle.cg_fitted.specs.Fitting.{InsnFits, MacroFits, AreFitting, IsKept}
 use Rattle.cg_fitted.proofs.Bits.{parts_apart, parts_free}
-use Rattle.cg_fitted.proofs.Delimited.{slots_delimited, macro_delimited}
+use Rattle.cg_fitted.proofs.Delimited.{own_operands, slots_delimited, macro_delimited}
 use Rattle.cg_fitted.proofs.Fields.{form_lies, field_placed}
+use Rattle.cg_fitted.proofs.Formats.{syntax_silent, format_silent, slots_distinct, slots_written}
 use Rattle.cg_fitted.proofs.Insns.{all_given, all_insns, all_members, all_mapped}
+use Rattle.cg_fitted.proofs.Known.{slots_known}
+use Rattle.cg_fitted.proofs.Matched.{all_matched}
 use Rattle.cg_fitted.proofs.Silent.{Silent, silent}
+use Rattle.cg_fitted.proofs.Slots.{not_twice}
 
 -- which form a member gave
 field_given : (e : Element) (form : PlainForm) → field_in e ≡ Some form → e ≡ element.Field (field.Plain form)
@@ -53,14 +59,14 @@ macro_given (element.Insn (insn.Macro other)) form is = ap (λ o. element.Insn (
   or x (Some y) = y
 macro_given _ form is = absurd cc
 
-module _ (s : Selection) (scope : Scope) (m : Machine) (tops : List Top) (alone : first_refusal tops ≡ None) (elements : s.elements ≡ filter_map element_at tops) (none : by_elements (described s) scope m tops ≡ None) (sized : IsSized (described s)) where
+module _ (s : Selection) (scope : Scope) (m : Machine) (tops : List Top) (alone : first_refusal tops ≡ None) (elements : s.elements ≡ filter_map element_at tops) (none : by_elements (described s) scope m tops ≡ None) (kept : IsKept (described s)) where
   at_element : (e f : Element) → e ≡ f → (x : IsElement s.elements e) → takes_part_in s e ≡ true → Silent (described s) scope m x.place f
   at_element e f same x part = subst (Silent (described s) scope m x.place) same (silent (described s) scope m tops alone elements none e x part)
 
   one_field : (e : Element) (form : PlainForm) → IsMember s field_in e form → misplaced (ruled_field (described s) scope form) ≡ []
   one_field e form x =
       let u : Silent (described s) scope m x.there.place (element.Field (field.Plain form)) = at_element e (element.Field (field.Plain form)) (field_given e form x.gives) x.there x.part in
-      field_placed (described s) scope form (form_lies (described s) scope m x.there.place form u sized.sized)
+      field_placed (described s) scope form (form_lies (described s) scope m x.there.place form u kept.sized)
 
   pub all_fields : AllHold (λ f. misplaced f ≡ []) (ruled_fields (described s) scope)
   all_fields = all_mapped (ruled_field (described s) scope) (λ f. misplaced f ≡ []) (members s field_in) (all_members s field_in (λ form. misplaced (ruled_field (described s) scope form) ≡ []) one_field)
@@ -70,16 +76,22 @@ module _ (s : Selection) (scope : Scope) (m : Machine) (tops : List Top) (alone 
       let o : FromForm s w = held (FromForm s) (written_in s) w (from_forms s) i in
       let e : Element = element.Insn (insn.Instruction o.form) in
       let u : Silent (described s) scope m o.place e = silent (described s) scope m tops alone elements none e (record { place = o.place; is = o.is }) o.part in
+      let slots : List (List ℕ) = slot_names (described s) w in
+      let few : length slots ≤ 256 = kept.slots i.place w i.is in
+      let silent_format : in_format w ≡ [] = format_silent (described s) scope m o.form o.place u w i o.number in
       record {
-        apart = parts_apart (described s) scope m o.place e u sized.sized w i o.number;
-        free = parts_free (described s) scope m o.place e u sized.sized w i o.number;
-        delimited = slots_delimited (described s) scope m o.place e u sized.sized w i o.number;
+        apart = parts_apart (described s) scope m o.place e u kept.sized w i o.number;
+        free = parts_free (described s) scope m o.place e u kept.sized w i o.number;
+        delimited = slots_delimited (described s) scope m o.place e u kept.sized w i o.number;
+        once = not_twice slots few (is_lacking slots) w.name (slot_operands (parts_of (described s) w)) w.pieces (syntax_silent (described s) scope m o.form o.place u w i o.number);
+        matched = ap (unmatched (pieces_of slots w.pieces)) (own_operands (described s) w)
+            ∙ all_matched (described s).operand_numbers (all_operand_names s (written_in s)) slots w.pieces few (slots_known s kept.at w i kept.operands) (slots_distinct (described s) w silent_format) (slots_written (described s) w silent_format);
       }
 
   one_macro : (e : Element) (form : MacroForm) → IsMember s macro_in e form → (target : ℕ) → MacroFits m (macro_by (described s) form (macro_slots (described s).operand_numbers form) target)
   one_macro e form x target =
       let u : Silent (described s) scope m x.there.place (element.Insn (insn.Macro form)) = at_element e (element.Insn (insn.Macro form)) (macro_given e form x.gives) x.there x.part in
-      record { delimited = macro_delimited (described s) scope m x.there.place form u sized.sized }
+      record { delimited = macro_delimited (described s) scope m x.there.place form u kept.sized }
 
   abbrev MacroOf : MacroForm → Type 0
   MacroOf form = (target : ℕ) → MacroFits m (macro_by (described s) form (macro_slots (described s).operand_numbers form) target)
@@ -102,6 +114,6 @@ module _ (s : Selection) (scope : Scope) (m : Machine) (tops : List Top) (alone 
   }
 
 -- of a description that is known to be that of a selection
-pub whole_of : (d : Described) (s : Selection) (scope : Scope) (m : Machine) (tops : List Top) → d ≡ described s → first_refusal tops ≡ None → s.elements ≡ filter_map element_at tops → by_elements d scope m tops ≡ None → IsSized d → m ≡ machine_of d scope → AreFitting m
-whole_of d s scope m tops same alone elements none sized own =
-    whole_law s scope m tops alone elements (subst (λ x. by_elements x scope m tops ≡ None) same none) (subst IsSized same sized) (own ∙ ap (λ x. machine_of x scope) same)
+pub whole_of : (d : Described) (s : Selection) (scope : Scope) (m : Machine) (tops : List Top) → d ≡ described s → first_refusal tops ≡ None → s.elements ≡ filter_map element_at tops → by_elements d scope m tops ≡ None → IsKept d → m ≡ machine_of d scope → AreFitting m
+whole_of d s scope m tops same alone elements none kept own =
+    whole_law s scope m tops alone elements (subst (λ x. by_elements x scope m tops ≡ None) same none) (subst IsKept same kept) (own ∙ ap (λ x. machine_of x scope) same)

@@ -1,25 +1,35 @@
 -- What of a machine's bits and slots has no fault.
-use Rattle.std.specs.Prelude.{◌≡◌, ℕ, true, [], Some, slice_get}
+use Rattle.std.specs.Prelude.{◌≡◌, ◌≤◌, ℕ, true, [], length, Some, slice_get}
 use Rattle.cg_model.specs.faults.E309.{misplaced}
 use Rattle.cg_model.specs.faults.E310.{overlaps}
 use Rattle.cg_model.specs.faults.E312.{undelimited}
-use Rattle.cg_model.specs.faults.E313.{slot_operands}
+use Rattle.cg_model.specs.faults.E313.{slot_operands, written_twice, unmatched}
 use Rattle.cg_model.specs.faults.E316.{bundled}
 use Rattle.cg_model.specs.declared.field.Field.{Field}
 use Rattle.cg_model.specs.declared.insn.Insn.{Insn}
 use Rattle.cg_model.specs.declared.insn.MacroInsn.{MacroInsn}
 use Rattle.cg_model.specs.declared.machine.Machine.{Machine}
-use Rattle.cg_described.specs.Described.{Described}
+use Rattle.cg_known.specs.Table.{table_of}
+use Rattle.cg_choices.specs.declared.written.Written.{Written}
+use Rattle.cg_described.specs.Described.{Described, all_operand_names}
+use Rattle.cg_selected.specs.Instructions.{slot_names}
 
--- What another law has to say of a description: the sizes of its machine are known.
-pub record IsSized (d : Described) : Type 0 where
+-- What other laws have to say of a description: its machine's sizes are known, names lead to where they stand, and there are no more
+-- operands, and no more slots of an instruction, than there are numbers for them.
+pub record IsKept (d : Described) : Type 0 where
   pub sized : d.framing.is_sized ≡ true
+  pub at : d.selection.at ≡ table_of d.selection.machine d.selection.isa d.selection.elements
+  pub operands : length (all_operand_names d.selection d.written) ≤ 65536
+  pub slots : (k : ℕ) (w : Written) → slice_get d.written k ≡ Some w → length (slot_names d w) ≤ 256
 
--- Of an instruction: no two parts of its format cover one bit, none covers the bit of the bundle field, and its slots are delimited.
+-- Of an instruction: no two parts of its format cover one bit, none covers the bit of the bundle field, its slots are delimited, none
+-- stands twice in its syntax, and each stands once in its format and in its syntax.
 pub record InsnFits (m : Machine) (i : Insn) : Type 0 where
   pub apart : overlaps m i.parts ≡ []
   pub free : bundled m i.parts ≡ []
   pub delimited : undelimited m (slot_operands i.parts) i.pieces ≡ []
+  pub once : written_twice (slot_operands i.parts) i.pieces ≡ []
+  pub matched : unmatched i.pieces (slot_operands i.parts) ≡ []
 
 -- Of a macro instruction: its slots are delimited.
 pub record MacroFits (m : Machine) (x : MacroInsn) : Type 0 where

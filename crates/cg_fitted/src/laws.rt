@@ -5,7 +5,7 @@ ghost use Rattle.cg_described.specs.Described as description;
 ghost use Rattle.cg_described.specs.Seen.{seen_described};
 ghost use Rattle.cg_element.specs.Reading.{element_at, first_refusal};
 ghost use Rattle.cg_faults.specs.Least.{by_elements};
-ghost use Rattle.cg_fitted.specs.Fitting.{IsSized, AreFitting};
+ghost use Rattle.cg_fitted.specs.Fitting.{IsKept, AreFitting};
 ghost use Rattle.cg_selected.specs.Machines.{machine_of};
 ghost use Rattle.cg_selected.specs.Seen.{base};
 
@@ -16,8 +16,9 @@ use cg_model::Machine;
 use cg_names::Scope;
 
 /// A law of the definitions: where none of the forms is refused by itself, and none of those that take part
-/// by its data or its modes, and sizes are known, each field of the description's machine has its place, no
-/// two parts of a format cover one bit, none covers that of the bundle field, and slots are delimited.
+/// by its data or its modes, and sizes and names are kept, each field of the description's machine has its
+/// place, no two parts of a format cover one bit, none covers that of the bundle field, slots are delimited,
+/// and those of an instruction stand once in its syntax and once in its format.
 pub fn elements_fit(
     selection: &Selection,
     described: &Described,
@@ -30,6 +31,6 @@ pub fn elements_fit(
     requires alone { first_refusal tops.now ≡ None }
     requires elements { (seen selection.now).elements ≡ filter_map element_at tops.now }
     requires unsaid { by_elements (seen_described described.now) (base scope.now) machine.now tops.now ≡ None }
-    requires sized { IsSized (seen_described described.now) }
+    requires kept { IsKept (seen_described described.now) }
     ensures { AreFitting machine.now }
 {}
