@@ -11,4 +11,5 @@ pub mod Matched
 pub mod Formats
 pub mod Tables
 pub mod Known
+pub mod MacroSlots
 pub mod Whole

@@ -24,7 +24,8 @@ use Rattle.cg_model.specs.declared.machine.Machine.{Machine}
 use Rattle.cg_names.specs.declared.scope.Scope.{Scope}
 use Rattle.cg_choices.specs.declared.written.Written.{Written}
 use Rattle.cg_data.specs.Selecting.{Selection, takes_part_in, members}
-use Rattle.cg_data.specs.Numbering.{field_in}
+use Rattle.cg_data.specs.Numbering.{field_in, numbered}
+use Rattle.cg_expanded.specs.Written.{all_pieces}
 use Rattle.cg_described.specs.Described.{Described, all_operand_names, described, written_in}
 use Rattle.cg_formats.specs.E313.{is_lacking, in_format}
 use Rattle.cg_lawful.proofs.Members.{AllHold, IsIn, held}
@@ -40,6 +41,7 @@ use Rattle.cg_fitted.proofs.Fields.{form_lies, field_placed}
 use Rattle.cg_fitted.proofs.Formats.{syntax_silent, format_silent, slots_distinct, slots_written}
 use Rattle.cg_fitted.proofs.Insns.{all_given, all_insns, all_members, all_mapped}
 use Rattle.cg_fitted.proofs.Known.{slots_known}
+use Rattle.cg_fitted.proofs.MacroSlots.{macro_distinct, macro_known, macro_written}
 use Rattle.cg_fitted.proofs.Matched.{all_matched}
 use Rattle.cg_fitted.proofs.Silent.{Silent, silent}
 use Rattle.cg_fitted.proofs.Slots.{not_twice}
@@ -88,22 +90,27 @@ module _ (s : Selection) (scope : Scope) (m : Machine) (tops : List Top) (alone 
             ∙ all_matched (described s).operand_numbers (all_operand_names s (written_in s)) slots w.pieces few (slots_known s kept.at w i kept.operands) (slots_distinct (described s) w silent_format) (slots_written (described s) w silent_format);
       }
 
-  one_macro : (e : Element) (form : MacroForm) → IsMember s macro_in e form → (target : ℕ) → MacroFits m (macro_by (described s) form (macro_slots (described s).operand_numbers form) target)
-  one_macro e form x target =
-      let u : Silent (described s) scope m x.there.place (element.Insn (insn.Macro form)) = at_element e (element.Insn (insn.Macro form)) (macro_given e form x.gives) x.there x.part in
-      record { delimited = macro_delimited (described s) scope m x.there.place form u kept.sized }
-
   abbrev MacroOf : MacroForm → Type 0
-  MacroOf form = (target : ℕ) → MacroFits m (macro_by (described s) form (macro_slots (described s).operand_numbers form) target)
+  MacroOf form =
+      length (macro_slots (described s).operand_numbers form) ≤ 256 → (target : ℕ) → MacroFits m (macro_by (described s) form (macro_slots (described s).operand_numbers form) target)
 
-  by_target : (form : MacroForm) → MacroOf form → (o : Option ℕ) (x : MacroInsn) → option_map (macro_by (described s) form (macro_slots (described s).operand_numbers form)) o ≡ Some x → MacroFits m x
+  one_macro : (e : Element) (form : MacroForm) → IsMember s macro_in e form → MacroOf form
+  one_macro e form x few target =
+      let u : Silent (described s) scope m x.there.place (element.Insn (insn.Macro form)) = at_element e (element.Insn (insn.Macro form)) (macro_given e form x.gives) x.there x.part in
+      let names : List (List ℕ) = all_operand_names s (written_in s) in
+      record {
+        delimited = macro_delimited (described s) scope m x.there.place form u kept.sized;
+        matched = all_matched (numbered names) names (macro_slots (numbered names) form) (all_pieces form.syntax) few (macro_known names form kept.operands) (macro_distinct names form) (macro_written names form);
+      }
+
+  by_target : (form : MacroForm) → ((target : ℕ) → MacroFits m (macro_by (described s) form (macro_slots (described s).operand_numbers form) target)) → (o : Option ℕ) (x : MacroInsn) → option_map (macro_by (described s) form (macro_slots (described s).operand_numbers form)) o ≡ Some x → MacroFits m x
   by_target form h None x is = absurd cc
   by_target form h (Some k) x is = subst (MacroFits m) (the_found (macro_by (described s) form (macro_slots (described s).operand_numbers form) k) x is) (h k)
 
   pub all_macros : AllHold (MacroFits m) (macros_of (described s))
   all_macros =
       let forms : AllHold MacroOf (members s macro_in) = all_members s macro_in MacroOf one_macro in
-      all_given (MacroFits m) (macro_of (described s)) (members s macro_in) (λ form x i is. by_target form (held MacroOf (members s macro_in) form forms i) (target_of (described s).written form) x is)
+      all_given (MacroFits m) (macro_of (described s)) (members s macro_in) (λ form x i is. by_target form (held MacroOf (members s macro_in) form forms i (kept.macros i.place form i.is)) (target_of (described s).written form) x is)
 
   -- of the machine of the description
   pub whole_law : m ≡ machine_of (described s) scope → AreFitting m
