@@ -37,6 +37,15 @@ place_at before (x ∷ xs) (suc k) name h is =
     let other : same_text x name ≡ false = (both_false (is_among before name) (same_text x name) (sym (among_more before x name) ∙ distinct_later (before ++ x ∷ []) xs k name h.1 is)).1 in
     ap (λ b. if b then Some 0 else option_map suc (place_of name xs)) other ∙ ap (option_map suc) (place_at (before ++ x ∷ []) xs k name h.1 is)
 
+-- what stands at a place is one of them
+pub member : (xs : List (List ℕ)) (k : ℕ) (x : List ℕ) → slice_get xs k ≡ Some x → is_among xs x ≡ true
+member [] k x is = absurd cc
+member (y ∷ ys) zero x is = ap (λ b. b || is_among ys x) (ap (same_text y) (sym (the_found y x is)) ∙ is_own y)
+member (y ∷ ys) (suc k) x is = either (same_text y x) (is_among ys x) (member ys k x is) where
+  either : (b c : Bool) → c ≡ true → (b || c) ≡ true
+  either true c e = refl
+  either false c e = e
+
 -- Names behind others.
 pub distinct_append : (before xs ys : List (List ℕ)) → AreDistinct before xs → AreDistinct (before ++ xs) ys → AreDistinct before (xs ++ ys)
 distinct_append before [] ys h g = subst (λ zs. AreDistinct zs ys) (none_after before) g

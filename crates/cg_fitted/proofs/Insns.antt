@@ -1,7 +1,8 @@
 -- What holds of all that forms give holds of all that a machine has.
-use Rattle.std.proofs.Common.{◌≡◌, ℕ, suc, Bool, true, false, if◌then◌else◌, List, [], ◌∷◌, map, Option, Some, None, slice_get, refl, subst}
+use Rattle.std.proofs.Common.{◌≡◌, ◌∙◌, ℕ, zero, suc, Bool, true, false, if◌then◌else◌, List, [], ◌∷◌, map, Option, Some, None, is_some, slice_get, refl, sym, ap, subst}
 use Rattle.std.specs.List.{filter_map, cons_option}
 use Rattle.std.specs.Option.{option_map}
+use Rattle.std.proofs.lemmas.Bool.{false≢true}
 use Rattle.cg_allowed.proofs.Framing.{IsElement}
 use Rattle.cg_allowed.proofs.Members.{IsMember}
 use Rattle.cg_clean.proofs.Lists.{the_found}
@@ -23,6 +24,20 @@ module _ {A B : Type 0} (P : B → Type 0) (f : A → Option B) where
     at : (o : Option B) → f x ≡ o → AllHold P (filter_map f xs) → AllHold P (cons_option o (filter_map f xs))
     at None is rest = rest
     at (Some y) is rest = (h x y (record { place = 0; is = refl }) is, rest)
+
+-- Where each gives one, each stands where what it is given of does.
+pub given_at : {A B : Type 0} (f : A → Option B) (xs : List A) → AllHold (λ x. is_some (f x) ≡ true) xs → (k : ℕ) (x : A) → slice_get xs k ≡ Some x → slice_get (filter_map f xs) k ≡ f x
+given_at f [] h k x is = absurd cc
+given_at {A} {B} f (y ∷ ys) h k x is = at (λ n there. given_at f ys h.1 n x there) (f y) refl h.0 k is where
+  at : ((n : ℕ) → slice_get ys n ≡ Some x → slice_get (filter_map f ys) n ≡ f x) → (o : Option B) → f y ≡ o → is_some o ≡ true → (n : ℕ) → slice_get (y ∷ ys) n ≡ Some x → slice_get (cons_option o (filter_map f ys)) n ≡ f x
+  at rest None same some n there = absurd (false≢true some)
+  at rest (Some b) same some zero there = sym same ∙ ap f (the_found y x there)
+  at rest (Some b) same some (suc n) there = rest n there
+
+-- what follows for each
+pub all_so : {A : Type 0} (P Q : A → Type 0) → ((x : A) → P x → Q x) → (xs : List A) → AllHold P xs → AllHold Q xs
+all_so P Q f [] h = tt
+all_so P Q f (x ∷ xs) h = (f x h.0, all_so P Q f xs h.1)
 
 module _ (d : Described) (scope : Scope) (P : Insn → Type 0) (one : (w : Written) → IsIn d.written w → (form : InstructionForm) → P (insn_by d scope w form)) where
   by_form : (w : Written) → IsIn d.written w → (o : Option InstructionForm) (i : Insn) → option_map (insn_by d scope w) o ≡ Some i → P i

@@ -12,4 +12,8 @@ pub mod Formats
 pub mod Tables
 pub mod Known
 pub mod MacroSlots
+pub mod MacroForms
+pub mod Emitted
+pub mod Macros
+pub mod Targets
 pub mod Whole

@@ -1,12 +1,11 @@
 -- The operands of slots: where each stands in the syntax by its name, it does by its number, and none stands twice.
-use Rattle.std.proofs.Common.{◌≡◌, ◌∙◌, ℕ, zero, suc, ◌+◌, ◌≤◌, min, Bool, true, false, not, ◌||◌, ◌==◌, List, [], ◌∷◌, ◌++◌, map, length, Option, Some, None, slice_get, refl, sym, ap, subst, arith}
+use Rattle.std.proofs.Common.{◌≡◌, ◌∙◌, ℕ, suc, ◌+◌, ◌≤◌, min, Bool, true, false, not, ◌||◌, ◌==◌, List, [], ◌∷◌, ◌++◌, map, length, Option, Some, None, slice_get, refl, sym, ap, subst, arith}
 use Rattle.std.specs.List.{filter_map, cons_option}
 use Rattle.std.specs.Option.{option_map, unwrap_or}
 use Rattle.std.proofs.lemmas.Bool.{false≢true}
 use Rattle.std.proofs.lemmas.Bool.Decides.{nat_tests}
 use Rattle.cg_base.specs.Texts.{same_text, is_among}
 use Rattle.cg_clean.proofs.Clauses.{equal_texts}
-use Rattle.cg_clean.proofs.Lists.{the_found}
 use Rattle.cg_insn.specs.declared.syntax.NamedPiece.{NamedPiece}
 use Rattle.cg_insn.specs.declared.syntax.NamedPiece.TheVariants as named
 use Rattle.cg_model.specs.declared.insn.Piece.{Piece}
@@ -18,7 +17,7 @@ use Rattle.cg_choices.specs.declared.written.WrittenPiece.{WrittenPiece}
 use Rattle.cg_data.specs.Numbering.{Numbering}
 use Rattle.cg_described.proofs.Among.{among_more}
 use Rattle.cg_selected.specs.Instructions.{slot_of, slot_number, piece_of, piece_in, pieces_of, number_or_none}
-use Rattle.cg_fitted.proofs.Distinct.{AreDistinct, place_at}
+use Rattle.cg_fitted.proofs.Distinct.{AreDistinct, place_at, member}
 use Rattle.cg_fitted.proofs.Names.{HasNumber, same_name, within, is_own}
 use Rattle.cg_fitted.proofs.Slots.{never_so}
 
@@ -111,11 +110,6 @@ module _ (numbers : Numbering) (names : List (List ℕ)) where
       → unmatched (pieces_of slots ps) (map (number_or_none numbers) slots) ≡ []
   all_matched slots ps few known distinct written =
       none_unmatched (pieces_of slots ps) slots [] 0 (λ x e. absurd (false≢true e)) known distinct (λ k x is. at k x is) where
-        member : (xs : List (List ℕ)) (k : ℕ) (x : List ℕ) → slice_get xs k ≡ Some x → is_among xs x ≡ true
-        member [] k x is = absurd cc
-        member (y ∷ ys) zero x is = ap (λ b. b || is_among ys x) (ap (same_text y) (sym (the_found y x is)) ∙ is_own y)
-        member (y ∷ ys) (suc k) x is = or_true (same_text y x) (is_among ys x) (member ys k x is)
-
         cut : (k : ℕ) (x : List ℕ) → slice_get slots k ≡ Some x → slot_number slots x ≡ Some k
         cut k x is =
             let below = within slots k x is in

@@ -1,5 +1,5 @@
 -- The bits and slots of a description's machine, where nothing is said of its forms.
-use Rattle.std.proofs.Common.{◌≡◌, ◌∙◌, ℕ, true, List, length, ◌≤◌, [], Option, Some, None, slice_get, sym, ap, subst}
+use Rattle.std.proofs.Common.{◌≡◌, ◌∙◌, ℕ, true, List, map, length, ◌≤◌, [], Option, Some, None, slice_get, refl, sym, ap, subst}
 use Rattle.std.specs.List.{filter_map}
 use Rattle.std.specs.Option.{option_map}
 use Rattle.cg_base.specs.declared.form.Top.{Top}
@@ -16,7 +16,7 @@ use Rattle.cg_insn.specs.declared.form.InsnForm.TheVariants as insn
 use Rattle.cg_insn.specs.declared.form.InstructionForm.{InstructionForm}
 use Rattle.cg_insn.specs.declared.form.MacroForm.{MacroForm}
 use Rattle.cg_model.specs.faults.E309.{misplaced}
-use Rattle.cg_model.specs.faults.E313.{slot_operands, unmatched}
+use Rattle.cg_model.specs.faults.E313.{slot_operands, unmatched, ungiven}
 use Rattle.cg_model.specs.declared.field.Field.{Field}
 use Rattle.cg_model.specs.declared.insn.Insn.{Insn}
 use Rattle.cg_model.specs.declared.insn.MacroInsn.{MacroInsn}
@@ -30,8 +30,8 @@ use Rattle.cg_described.specs.Described.{Described, all_operand_names, described
 use Rattle.cg_formats.specs.E313.{is_lacking, in_format}
 use Rattle.cg_lawful.proofs.Members.{AllHold, IsIn, held}
 use Rattle.cg_lawful.proofs.Origins.{FromForm, from_forms}
-use Rattle.cg_selected.specs.Instructions.{slot_names, parts_of, pieces_of, insn_by, insns_of}
-use Rattle.cg_selected.specs.Macros.{macro_in, macro_slots, target_of, macro_by, macro_of, macros_of}
+use Rattle.cg_selected.specs.Instructions.{slot_names, number_or_none, parts_of, pieces_of, insn_by, insns_of}
+use Rattle.cg_selected.specs.Macros.{macro_in, macro_slots, target_of, givens, macro_by, macro_of, macros_of}
 use Rattle.cg_selected.specs.Machines.{machine_of}
 use Rattle.cg_selected.specs.Rules.{ruled_field, ruled_fields}
 use Rattle.cg_fitted.specs.Fitting.{InsnFits, MacroFits, AreFitting, IsKept}
@@ -42,9 +42,11 @@ use Rattle.cg_fitted.proofs.Formats.{syntax_silent, format_silent, slots_distinc
 use Rattle.cg_fitted.proofs.Insns.{all_given, all_insns, all_members, all_mapped}
 use Rattle.cg_fitted.proofs.Known.{slots_known}
 use Rattle.cg_fitted.proofs.MacroSlots.{macro_distinct, macro_known, macro_written}
+use Rattle.cg_fitted.proofs.Macros.{macro_once, macro_gives, macro_used}
 use Rattle.cg_fitted.proofs.Matched.{all_matched}
 use Rattle.cg_fitted.proofs.Silent.{Silent, silent}
 use Rattle.cg_fitted.proofs.Slots.{not_twice}
+use Rattle.cg_fitted.proofs.Targets.{At, aimed_at, emitted_slots}
 
 -- which form a member gave
 field_given : (e : Element) (form : PlainForm) → field_in e ≡ Some form → e ≡ element.Field (field.Plain form)
@@ -61,7 +63,7 @@ macro_given (element.Insn (insn.Macro other)) form is = ap (λ o. element.Insn (
   or x (Some y) = y
 macro_given _ form is = absurd cc
 
-module _ (s : Selection) (scope : Scope) (m : Machine) (tops : List Top) (alone : first_refusal tops ≡ None) (elements : s.elements ≡ filter_map element_at tops) (none : by_elements (described s) scope m tops ≡ None) (kept : IsKept (described s)) where
+module _ (s : Selection) (scope : Scope) (m : Machine) (tops : List Top) (alone : first_refusal tops ≡ None) (elements : s.elements ≡ filter_map element_at tops) (none : by_elements (described s) scope m tops ≡ None) (kept : IsKept (described s)) (own : m ≡ machine_of (described s) scope) where
   at_element : (e f : Element) → e ≡ f → (x : IsElement s.elements e) → takes_part_in s e ≡ true → Silent (described s) scope m x.place f
   at_element e f same x part = subst (Silent (described s) scope m x.place) same (silent (described s) scope m tops alone elements none e x part)
 
@@ -92,32 +94,37 @@ module _ (s : Selection) (scope : Scope) (m : Machine) (tops : List Top) (alone 
 
   abbrev MacroOf : MacroForm → Type 0
   MacroOf form =
-      length (macro_slots (described s).operand_numbers form) ≤ 256 → (target : ℕ) → MacroFits m (macro_by (described s) form (macro_slots (described s).operand_numbers form) target)
+      length (macro_slots (described s).operand_numbers form) ≤ 256 → (target : ℕ) → target_of (described s).written form ≡ Some target → MacroFits m (macro_by (described s) form (macro_slots (described s).operand_numbers form) target)
 
   one_macro : (e : Element) (form : MacroForm) → IsMember s macro_in e form → MacroOf form
-  one_macro e form x few target =
+  one_macro e form x few target aimed =
       let u : Silent (described s) scope m x.there.place (element.Insn (insn.Macro form)) = at_element e (element.Insn (insn.Macro form)) (macro_given e form x.gives) x.there x.part in
       let names : List (List ℕ) = all_operand_names s (written_in s) in
+      let w : At (written_in s) target = aimed_at (written_in s) form target aimed in
       record {
         delimited = macro_delimited (described s) scope m x.there.place form u kept.sized;
+        once = macro_once (described s) scope m form x.there.place u target aimed w.what w.is (map (number_or_none (described s).operand_numbers) (macro_slots (numbered names) form)) few;
+        given = ap (ungiven (givens (described s) (macro_slots (numbered names) form) form (slice_get (written_in s) target))) (emitted_slots s scope m own form target w.what kept.insns w.is)
+            ∙ macro_gives (described s) scope m form x.there.place u target aimed w.what w.is;
+        used = macro_used (described s) scope m form x.there.place u target aimed w.what w.is (macro_distinct names form) (macro_written names form);
         matched = all_matched (numbered names) names (macro_slots (numbered names) form) (all_pieces form.syntax) few (macro_known names form kept.operands) (macro_distinct names form) (macro_written names form);
       }
 
-  by_target : (form : MacroForm) → ((target : ℕ) → MacroFits m (macro_by (described s) form (macro_slots (described s).operand_numbers form) target)) → (o : Option ℕ) (x : MacroInsn) → option_map (macro_by (described s) form (macro_slots (described s).operand_numbers form)) o ≡ Some x → MacroFits m x
-  by_target form h None x is = absurd cc
-  by_target form h (Some k) x is = subst (MacroFits m) (the_found (macro_by (described s) form (macro_slots (described s).operand_numbers form) k) x is) (h k)
+  by_target : (form : MacroForm) → ((target : ℕ) → target_of (described s).written form ≡ Some target → MacroFits m (macro_by (described s) form (macro_slots (described s).operand_numbers form) target)) → (o : Option ℕ) → target_of (described s).written form ≡ o → (x : MacroInsn) → option_map (macro_by (described s) form (macro_slots (described s).operand_numbers form)) o ≡ Some x → MacroFits m x
+  by_target form h None aimed x is = absurd cc
+  by_target form h (Some k) aimed x is = subst (MacroFits m) (the_found (macro_by (described s) form (macro_slots (described s).operand_numbers form) k) x is) (h k aimed)
 
   pub all_macros : AllHold (MacroFits m) (macros_of (described s))
   all_macros =
       let forms : AllHold MacroOf (members s macro_in) = all_members s macro_in MacroOf one_macro in
-      all_given (MacroFits m) (macro_of (described s)) (members s macro_in) (λ form x i is. by_target form (held MacroOf (members s macro_in) form forms i (kept.macros i.place form i.is)) (target_of (described s).written form) x is)
+      all_given (MacroFits m) (macro_of (described s)) (members s macro_in) (λ form x i is. by_target form (held MacroOf (members s macro_in) form forms i (kept.macros i.place form i.is)) (target_of (described s).written form) refl x is)
 
   -- of the machine of the description
-  pub whole_law : m ≡ machine_of (described s) scope → AreFitting m
-  whole_law same = record {
-    fields = λ k f is. held (λ x. misplaced x ≡ []) (ruled_fields (described s) scope) f all_fields (record { place = k; is = sym (ap (λ x. slice_get x.fields k) same) ∙ is });
-    insns = λ k i is. held (InsnFits m) (insns_of (described s) scope) i (all_insns (described s) scope (InsnFits m) one_insn) (record { place = k; is = sym (ap (λ x. slice_get x.insns k) same) ∙ is });
-    macros = λ k x is. held (MacroFits m) (macros_of (described s)) x all_macros (record { place = k; is = sym (ap (λ y. slice_get y.macros k) same) ∙ is });
+  pub whole_law : AreFitting m
+  whole_law = record {
+    fields = λ k f is. held (λ x. misplaced x ≡ []) (ruled_fields (described s) scope) f all_fields (record { place = k; is = sym (ap (λ x. slice_get x.fields k) own) ∙ is });
+    insns = λ k i is. held (InsnFits m) (insns_of (described s) scope) i (all_insns (described s) scope (InsnFits m) one_insn) (record { place = k; is = sym (ap (λ x. slice_get x.insns k) own) ∙ is });
+    macros = λ k x is. held (MacroFits m) (macros_of (described s)) x all_macros (record { place = k; is = sym (ap (λ y. slice_get y.macros k) own) ∙ is });
   }
 
 -- of a description that is known to be that of a selection

@@ -18,8 +18,8 @@ use cg_names::Scope;
 /// A law of the definitions: where none of the forms is refused by itself, and none of those that take part
 /// by its data or its modes, and sizes and names are kept, each field of the description's machine has its
 /// place, no two parts of a format cover one bit, none covers that of the bundle field, slots are delimited,
-/// those of an instruction stand once in its syntax and once in its format, and those of a macro instruction
-/// in its syntax.
+/// those of an instruction stand once in its syntax and once in its format, those of a macro instruction
+/// once in its syntax and in what it gives, and what it emits is given all that it needs.
 pub fn elements_fit(
     selection: &Selection,
     described: &Described,
