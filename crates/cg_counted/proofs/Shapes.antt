@@ -185,7 +185,7 @@ module _ (s : Selection) (scope : Scope) (m : Machine) (tops : List Top) (alone 
       let o : OfForm s scope m tops alone elements none w = of_its_form s scope m tops alone elements none w there in
       slots_within (described s) scope m o.form o.place o.own w there o.test
 
-  one_syntax : (e : Element) (form : MacroForm) → IsMember s macro_in e form → (x : MacroInsn) → macro_of (described s) form ≡ Some x → of_syntax (length x.pieces) (length x.operands) ≡ []
+  pub one_syntax : (e : Element) (form : MacroForm) → IsMember s macro_in e form → (x : MacroInsn) → macro_of (described s) form ≡ Some x → of_syntax (length x.pieces) (length x.operands) ≡ []
   one_syntax e form member x is =
       let o : Own (described s) scope m member.there.place (element.Insn (insn.Macro form)) = own_at s scope m tops alone elements none e (element.Insn (insn.Macro form)) (macro_given e form member.gives) member.there member.part in
       by (target_of (written_in s) form) refl (syntax_few (described s) scope m form member.there.place o) is where

@@ -12,6 +12,7 @@ use Rattle.cg_choices.specs.declared.written.Written.{Written}
 use Rattle.cg_described.specs.Described.{Described}
 use Rattle.cg_described.specs.Texts.{is_of_form, of_form}
 use Rattle.cg_formats.specs.E310 as e310
+use Rattle.cg_formats.specs.E311 as e311
 use Rattle.cg_formats.specs.E316 as e316
 use Rattle.cg_lawful.proofs.Members.{IsIn, filtered_none}
 use Rattle.cg_lawful.proofs.Said.{none_placed}
@@ -34,6 +35,9 @@ module _ (d : Described) (scope : Scope) (m : Machine) (place : ℕ) (e : Elemen
   parts_apart =
       let none : flat_map (e310.of_written d m) (of_form (place + 1) d.written) ≡ [] = none_placed _ (asked d _ sized u.bits) in
       none_at (at_part m w) (bits.overlaps m (parts_of d w)) (of_one place (e310.of_written d m) d.written w none i same)
+
+  pub constants_silent : flat_map (e311.of_part d) w.parts ≡ []
+  constants_silent = of_one place (e311.of_written d) d.written w (none_placed _ (asked d _ sized u.constants)) i same
 
   pub parts_free : bundle.bundled m (parts_of d w) ≡ []
   parts_free =

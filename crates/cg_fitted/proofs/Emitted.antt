@@ -90,7 +90,7 @@ three_false false true c e = absurd (false≢true (sym e))
 three_false false false true e = absurd (false≢true (sym e))
 three_false false false false e = (refl, refl, refl)
 
-unsaid : {A : Type 0} (b : Bool) (x : A) → (if b then x ∷ [] else []) ≡ [] → b ≡ false
+pub unsaid : {A : Type 0} (b : Bool) (x : A) → (if b then x ∷ [] else []) ≡ [] → b ≡ false
 unsaid true x e = absurd cc
 unsaid false x e = refl
 

@@ -33,7 +33,7 @@ form_lies d scope m place form u sized = lies (extent_of d.framing form) (unsaid
 three : (length shift word mode bits : ℕ) → length ≡ bits → 1 ≤ bits → shift + bits ≤ word → bits ≤ mode → (nat_le 1 length && nat_le (shift + length) word && nat_le length mode) ≡ true
 three length shift word mode bits is some within fits = grind (arith, nat_tests)
 
-none_where : {A : Type 0} (b : Bool) (x : A) → b ≡ true → (if not b then x ∷ [] else []) ≡ []
+pub none_where : {A : Type 0} (b : Bool) (x : A) → b ≡ true → (if not b then x ∷ [] else []) ≡ []
 none_where true x h = refl
 none_where false x h = absurd (false≢true h)
 

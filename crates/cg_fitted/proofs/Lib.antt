@@ -16,4 +16,8 @@ pub mod MacroForms
 pub mod Emitted
 pub mod Macros
 pub mod Targets
+pub mod Parts
+pub mod Constants
+pub mod Bundle
+pub mod Kept
 pub mod Whole

@@ -52,7 +52,7 @@ pub same_name : (numbers : List ℕ → Option ℕ) (names : List (List ℕ)) (a
 same_name numbers names a b x y same = the_found a b (sym x.there ∙ ap (slice_get names) same ∙ y.there)
 
 -- Among so few names each has its place for a number.
-cut_short : (names : List (List ℕ)) (name : List ℕ) (most place : ℕ) → length names ≤ suc most → slice_get names place ≡ Some name → min place most ≡ place
+pub cut_short : (names : List (List ℕ)) (name : List ℕ) (most place : ℕ) → length names ≤ suc most → slice_get names place ≡ Some name → min place most ≡ place
 cut_short names name most place few there = let below = within names place name there in omega (arith, below)
 
 pub numbered_at : (names : List (List ℕ)) (name : List ℕ) → length names ≤ 65536 → is_among names name ≡ true → HasNumber (numbered names) names name

@@ -36,6 +36,7 @@ pub record Leads {A : Type 0} (s : Selection) (given : Element → Option A) (ow
   pub element : Element
   pub behind : ℕ
   pub stands : slice_get es behind ≡ Some element
+  pub part : takes_part_in s element ≡ true
   pub at_form : at.form ≡ behind + number
   pub gives : given element ≡ Some form
 
@@ -57,6 +58,7 @@ module _ {A : Type 0} (s : Selection) (among : Namespace) (given : Element → O
         element = l.element;
         behind = suc l.behind;
         stands = l.stands;
+        part = l.part;
         at_form = l.at_form ∙ sym more;
         gives = l.gives;
       }
@@ -71,6 +73,7 @@ module _ {A : Type 0} (s : Selection) (among : Namespace) (given : Element → O
         element = l.element;
         behind = suc l.behind;
         stands = l.stands;
+        part = l.part;
         at_form = l.at_form ∙ sym more;
         gives = l.gives;
       }
@@ -90,6 +93,7 @@ module _ {A : Type 0} (s : Selection) (among : Namespace) (given : Element → O
         element = e;
         behind = 0;
         stands = refl;
+        part = part;
         at_form = ap (λ x. x.form) (sym is) ∙ plain;
         gives = g.is;
       }

@@ -1,11 +1,13 @@
 -- The bits and slots of a description's machine, where nothing is said of its forms.
-use Rattle.std.proofs.Common.{◌≡◌, ◌∙◌, ℕ, true, List, map, length, ◌≤◌, [], Option, Some, None, slice_get, refl, sym, ap, subst}
+use Rattle.std.proofs.Common.{◌≡◌, ◌∙◌, ℕ, ◌+◌, true, if◌then◌else◌, List, map, length, ◌≤◌, [], Option, Some, None, slice_get, refl, sym, ap, subst}
 use Rattle.std.specs.List.{filter_map}
 use Rattle.std.specs.Option.{option_map}
 use Rattle.cg_base.specs.declared.form.Top.{Top}
 use Rattle.cg_allowed.proofs.Framing.{IsElement}
 use Rattle.cg_allowed.proofs.Members.{IsMember}
-use Rattle.cg_clean.proofs.Lists.{the_found}
+use Rattle.cg_attrs.specs.declared.frame.Frame.TheVariants as frame
+use Rattle.cg_attrs.specs.declared.frame.IsaForm.{IsaForm}
+use Rattle.cg_clean.proofs.Lists.{append_none, the_found}
 use Rattle.cg_element.specs.declared.element.Element.{Element}
 use Rattle.cg_element.specs.declared.element.Element.TheVariants as element
 use Rattle.cg_element.specs.Reading.{element_at, first_refusal}
@@ -16,6 +18,7 @@ use Rattle.cg_insn.specs.declared.form.InsnForm.TheVariants as insn
 use Rattle.cg_insn.specs.declared.form.InstructionForm.{InstructionForm}
 use Rattle.cg_insn.specs.declared.form.MacroForm.{MacroForm}
 use Rattle.cg_model.specs.faults.E309.{misplaced}
+use Rattle.cg_model.specs.faults.E316.{no_bundle_bit}
 use Rattle.cg_model.specs.faults.E313.{slot_operands, unmatched, ungiven}
 use Rattle.cg_model.specs.declared.field.Field.{Field}
 use Rattle.cg_model.specs.declared.insn.Insn.{Insn}
@@ -23,27 +26,39 @@ use Rattle.cg_model.specs.declared.insn.MacroInsn.{MacroInsn}
 use Rattle.cg_model.specs.declared.machine.Machine.{Machine}
 use Rattle.cg_names.specs.declared.scope.Scope.{Scope}
 use Rattle.cg_choices.specs.declared.written.Written.{Written}
+use Rattle.cg_counted.specs.InHand.{IsChosen}
 use Rattle.cg_data.specs.Selecting.{Selection, takes_part_in, members}
+use Rattle.cg_data.specs.Extents.{extent_of}
+use Rattle.cg_data.specs.Framing.{framing, isa_form}
 use Rattle.cg_data.specs.Numbering.{field_in, numbered}
 use Rattle.cg_expanded.specs.Written.{all_pieces}
 use Rattle.cg_described.specs.Described.{Described, all_operand_names, described, written_in}
+use Rattle.cg_described.specs.Texts.{of_form}
+use Rattle.cg_formats.specs.E316.{of_bundle, of_isa, of_insns}
 use Rattle.cg_formats.specs.E313.{is_lacking, in_format}
 use Rattle.cg_lawful.proofs.Members.{AllHold, IsIn, held}
+use Rattle.cg_whole.proofs.Isa.{IsSelected, isa_selected}
+use Rattle.cg_whole.proofs.Width.{field_fits}
 use Rattle.cg_lawful.proofs.Origins.{FromForm, from_forms}
-use Rattle.cg_selected.specs.Instructions.{slot_names, number_or_none, parts_of, pieces_of, insn_by, insns_of}
+use Rattle.cg_selected.specs.Instructions.{behind_format, slot_names, number_or_none, parts_of, pieces_of, insn_by, insns_of}
 use Rattle.cg_selected.specs.Macros.{macro_in, macro_slots, target_of, givens, macro_by, macro_of, macros_of}
 use Rattle.cg_selected.specs.Machines.{machine_of}
 use Rattle.cg_selected.specs.Rules.{ruled_field, ruled_fields}
-use Rattle.cg_fitted.specs.Fitting.{InsnFits, MacroFits, AreFitting, IsKept}
-use Rattle.cg_fitted.proofs.Bits.{parts_apart, parts_free}
+use Rattle.cg_fitted.specs.Fitting.{InsnFits, MacroFits, AreFitting}
+use Rattle.cg_fitted.proofs.Bits.{parts_apart, constants_silent, parts_free}
+use Rattle.cg_fitted.proofs.Bundle.{bundle_silent}
+use Rattle.cg_fitted.proofs.Constants.{FieldOf, field_of_name, all_constants}
 use Rattle.cg_fitted.proofs.Delimited.{own_operands, slots_delimited, macro_delimited}
+use Rattle.cg_fitted.proofs.Extents.{Lies}
 use Rattle.cg_fitted.proofs.Fields.{form_lies, field_placed}
 use Rattle.cg_fitted.proofs.Formats.{syntax_silent, format_silent, slots_distinct, slots_written}
 use Rattle.cg_fitted.proofs.Insns.{all_given, all_insns, all_members, all_mapped}
+use Rattle.cg_fitted.proofs.Kept.{IsKept, kept_law}
 use Rattle.cg_fitted.proofs.Known.{slots_known}
 use Rattle.cg_fitted.proofs.MacroSlots.{macro_distinct, macro_known, macro_written}
 use Rattle.cg_fitted.proofs.Macros.{macro_once, macro_gives, macro_used}
 use Rattle.cg_fitted.proofs.Matched.{all_matched}
+use Rattle.cg_fitted.proofs.Parts.{constants_of_fields}
 use Rattle.cg_fitted.proofs.Silent.{Silent, silent}
 use Rattle.cg_fitted.proofs.Slots.{not_twice}
 use Rattle.cg_fitted.proofs.Targets.{At, aimed_at, emitted_slots}
@@ -63,7 +78,7 @@ macro_given (element.Insn (insn.Macro other)) form is = ap (λ o. element.Insn (
   or x (Some y) = y
 macro_given _ form is = absurd cc
 
-module _ (s : Selection) (scope : Scope) (m : Machine) (tops : List Top) (alone : first_refusal tops ≡ None) (elements : s.elements ≡ filter_map element_at tops) (none : by_elements (described s) scope m tops ≡ None) (kept : IsKept (described s)) (own : m ≡ machine_of (described s) scope) where
+module _ (s : Selection) (scope : Scope) (m : Machine) (tops : List Top) (alone : first_refusal tops ≡ None) (elements : s.elements ≡ filter_map element_at tops) (none : by_elements (described s) scope m tops ≡ None) (kept : IsKept s) (own : m ≡ machine_of (described s) scope) where
   at_element : (e f : Element) → e ≡ f → (x : IsElement s.elements e) → takes_part_in s e ≡ true → Silent (described s) scope m x.place f
   at_element e f same x part = subst (Silent (described s) scope m x.place) same (silent (described s) scope m tops alone elements none e x part)
 
@@ -71,6 +86,24 @@ module _ (s : Selection) (scope : Scope) (m : Machine) (tops : List Top) (alone 
   one_field e form x =
       let u : Silent (described s) scope m x.there.place (element.Field (field.Plain form)) = at_element e (element.Field (field.Plain form)) (field_given e form x.gives) x.there x.part in
       field_placed (described s) scope form (form_lies (described s) scope m x.there.place form u kept.sized)
+
+  lie : (e : Element) (form : PlainForm) → IsMember s field_in e form → Lies (extent_of (framing s) form)
+  lie e form x = form_lies (described s) scope m x.there.place form (at_element e (element.Field (field.Plain form)) (field_given e form x.gives) x.there x.part) kept.sized
+
+  -- the bundle field
+  bundle_said : (form : IsaForm) → isa_form s ≡ Some form → of_bundle (described s) form.bundle_field ≡ []
+  bundle_said form is =
+      let x : IsSelected s form = isa_selected s form kept.at is in
+      let e : Element = element.Frame (frame.Isa form) in
+      let u : Silent (described s) scope m x.place e = silent (described s) scope m tops alone elements none e (record { place = x.place; is = x.is }) x.part in
+      let said : of_isa (described s) (x.place + 1) e ≡ [] = (append_none (of_isa (described s) (x.place + 1) e) (of_insns (described s) m (of_form (x.place + 1) (written_in s))) u.bundle).0 in
+      sym (ap (λ b. if b then of_bundle (described s) form.bundle_field else []) x.selected) ∙ said
+
+  bundle_named : (form : IsaForm) (name : List ℕ) → isa_form s ≡ Some form → form.bundle_field ≡ Some name → FieldOf s scope m name
+  bundle_named form name is named = field_of_name s scope m kept.at own kept.fields lie name (field_fits s scope m tops alone elements kept.at none form is name named)
+
+  pub bundle_fits : no_bundle_bit m ≡ []
+  bundle_fits = bundle_silent s scope m own bundle_said bundle_named
 
   pub all_fields : AllHold (λ f. misplaced f ≡ []) (ruled_fields (described s) scope)
   all_fields = all_mapped (ruled_field (described s) scope) (λ f. misplaced f ≡ []) (members s field_in) (all_members s field_in (λ form. misplaced (ruled_field (described s) scope form) ≡ []) one_field)
@@ -84,6 +117,7 @@ module _ (s : Selection) (scope : Scope) (m : Machine) (tops : List Top) (alone 
       let few : length slots ≤ 256 = kept.slots i.place w i.is in
       let silent_format : in_format w ≡ [] = format_silent (described s) scope m o.form o.place u w i o.number in
       record {
+        constants = all_constants s scope m kept.at own kept.fields lie w.parts (behind_format (described s) w) 0 (constants_of_fields s w o) (constants_silent (described s) scope m o.place e u kept.sized w i o.number);
         apart = parts_apart (described s) scope m o.place e u kept.sized w i o.number;
         free = parts_free (described s) scope m o.place e u kept.sized w i o.number;
         delimited = slots_delimited (described s) scope m o.place e u kept.sized w i o.number;
@@ -94,11 +128,12 @@ module _ (s : Selection) (scope : Scope) (m : Machine) (tops : List Top) (alone 
 
   abbrev MacroOf : MacroForm → Type 0
   MacroOf form =
-      length (macro_slots (described s).operand_numbers form) ≤ 256 → (target : ℕ) → target_of (described s).written form ≡ Some target → MacroFits m (macro_by (described s) form (macro_slots (described s).operand_numbers form) target)
+      (target : ℕ) → target_of (described s).written form ≡ Some target → MacroFits m (macro_by (described s) form (macro_slots (described s).operand_numbers form) target)
 
   one_macro : (e : Element) (form : MacroForm) → IsMember s macro_in e form → MacroOf form
-  one_macro e form x few target aimed =
+  one_macro e form x target aimed =
       let u : Silent (described s) scope m x.there.place (element.Insn (insn.Macro form)) = at_element e (element.Insn (insn.Macro form)) (macro_given e form x.gives) x.there x.part in
+      let few : length (macro_slots (described s).operand_numbers form) ≤ 256 = kept.macros e form x target aimed in
       let names : List (List ℕ) = all_operand_names s (written_in s) in
       let w : At (written_in s) target = aimed_at (written_in s) form target aimed in
       record {
@@ -117,17 +152,19 @@ module _ (s : Selection) (scope : Scope) (m : Machine) (tops : List Top) (alone 
   pub all_macros : AllHold (MacroFits m) (macros_of (described s))
   all_macros =
       let forms : AllHold MacroOf (members s macro_in) = all_members s macro_in MacroOf one_macro in
-      all_given (MacroFits m) (macro_of (described s)) (members s macro_in) (λ form x i is. by_target form (held MacroOf (members s macro_in) form forms i (kept.macros i.place form i.is)) (target_of (described s).written form) refl x is)
+      all_given (MacroFits m) (macro_of (described s)) (members s macro_in) (λ form x i is. by_target form (held MacroOf (members s macro_in) form forms i) (target_of (described s).written form) refl x is)
 
   -- of the machine of the description
   pub whole_law : AreFitting m
   whole_law = record {
+    bundle = bundle_fits;
     fields = λ k f is. held (λ x. misplaced x ≡ []) (ruled_fields (described s) scope) f all_fields (record { place = k; is = sym (ap (λ x. slice_get x.fields k) own) ∙ is });
     insns = λ k i is. held (InsnFits m) (insns_of (described s) scope) i (all_insns (described s) scope (InsnFits m) one_insn) (record { place = k; is = sym (ap (λ x. slice_get x.insns k) own) ∙ is });
     macros = λ k x is. held (MacroFits m) (macros_of (described s)) x all_macros (record { place = k; is = sym (ap (λ y. slice_get y.macros k) own) ∙ is });
   }
 
 -- of a description that is known to be that of a selection
-pub whole_of : (d : Described) (s : Selection) (scope : Scope) (m : Machine) (tops : List Top) → d ≡ described s → first_refusal tops ≡ None → s.elements ≡ filter_map element_at tops → by_elements d scope m tops ≡ None → IsKept d → m ≡ machine_of d scope → AreFitting m
-whole_of d s scope m tops same alone elements none kept own =
-    whole_law s scope m tops alone elements (subst (λ x. by_elements x scope m tops ≡ None) same none) (subst IsKept same kept) (own ∙ ap (λ x. machine_of x scope) same)
+pub whole_of : (d : Described) (s : Selection) (scope : Scope) (m : Machine) (tops : List Top) → d ≡ described s → first_refusal tops ≡ None → s.elements ≡ filter_map element_at tops → by_elements d scope m tops ≡ None → IsChosen s → m ≡ machine_of d scope → AreFitting m
+whole_of d s scope m tops same alone elements none chosen own =
+    let unsaid : by_elements (described s) scope m tops ≡ None = subst (λ x. by_elements x scope m tops ≡ None) same none in
+    whole_law s scope m tops alone elements unsaid (kept_law s scope m tops alone elements unsaid chosen) (own ∙ ap (λ x. machine_of x scope) same)

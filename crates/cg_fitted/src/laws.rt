@@ -5,7 +5,8 @@ ghost use Rattle.cg_described.specs.Described as description;
 ghost use Rattle.cg_described.specs.Seen.{seen_described};
 ghost use Rattle.cg_element.specs.Reading.{element_at, first_refusal};
 ghost use Rattle.cg_faults.specs.Least.{by_elements};
-ghost use Rattle.cg_fitted.specs.Fitting.{IsKept, AreFitting};
+ghost use Rattle.cg_counted.specs.InHand.{IsChosen};
+ghost use Rattle.cg_fitted.specs.Fitting.{AreFitting};
 ghost use Rattle.cg_selected.specs.Machines.{machine_of};
 ghost use Rattle.cg_selected.specs.Seen.{base};
 
@@ -16,10 +17,10 @@ use cg_model::Machine;
 use cg_names::Scope;
 
 /// A law of the definitions: where none of the forms is refused by itself, and none of those that take part
-/// by its data or its modes, and sizes and names are kept, each field of the description's machine has its
-/// place, no two parts of a format cover one bit, none covers that of the bundle field, slots are delimited,
-/// those of an instruction stand once in its syntax and once in its format, those of a macro instruction
-/// once in its syntax and in what it gives, and what it emits is given all that it needs.
+/// by its data or its modes, nothing is at fault in the bits and slots of the description's machine in hand:
+/// each field has its place (E309), formats cover no bit twice (E310), constants fit (E311), slots are
+/// delimited (E312), those of a syntax, a format and what is emitted are the same (E313), and the bundle
+/// field is one bit of the first word that no format covers (E316).
 pub fn elements_fit(
     selection: &Selection,
     described: &Described,
@@ -32,6 +33,6 @@ pub fn elements_fit(
     requires alone { first_refusal tops.now ≡ None }
     requires elements { (seen selection.now).elements ≡ filter_map element_at tops.now }
     requires unsaid { by_elements (seen_described described.now) (base scope.now) machine.now tops.now ≡ None }
-    requires kept { IsKept (seen_described described.now) }
+    requires chosen { IsChosen (seen selection.now) }
     ensures { AreFitting machine.now }
 {}

@@ -32,6 +32,8 @@ use Rattle.cg_model.specs.faults.Finding.{at_place, where_so}
 use Rattle.cg_model.specs.faults.E308.{too_many}
 use Rattle.cg_model.specs.declared.fault.Said.TheVariants.{Count}
 use Rattle.cg_names.specs.declared.scope.Scope.{Scope}
+use Rattle.cg_references.specs.declared.reference.Place.TheVariants as place
+use Rattle.cg_references.specs.Finding.{fits}
 use Rattle.cg_references.specs.Clauses.{clauses_of, clauses_in}
 use Rattle.cg_references.specs.E304.{is_other, is_of_another_kind}
 use Rattle.cg_references.specs.E306.{is_nothing, is_undefined}
@@ -144,9 +146,9 @@ module _ (s : Selection) (scope : Scope) (m : Machine) (tops : List Top) (alone 
         (append_none (e308.of_texts (described s) number ws e f) (e308.of_clauses (described s) scope m number e ws (clauses_of (kind_of e) f)) behind).1 in
         sym (ap (λ o. flat_map (e308.in_clause (described s) scope m number e ws) (clauses_in kinds.Isa o)) opening.is) ∙ last
 
-    -- the bundle field has a number
-    named : (name : List ℕ) → form.bundle_field ≡ Some name → is_some (numbered (field_names s) name) ≡ true
-    named name is =
+    -- the bundle field is a plain field
+    pub field_fits : (name : List ℕ) → form.bundle_field ≡ Some name → fits s.at place.Field name ≡ true
+    field_fits name is =
         let x : Says opening.elements (codes "bundle-field") only_symbol name = symbol_said opening.elements (codes "bundle-field") name (ap (λ y. y.bundle_field) gives ∙ is) in
         let c : Clause = record { name = codes "bundle-field"; content = x.stands.content; elements = opening.elements } in
         let same : clause_names (e304.is_selected (described s) number) kinds.Isa c ≡ one_name name = clause_name (e304.is_selected (described s) number) c name chosen.selected refl x.is in
@@ -158,9 +160,13 @@ module _ (s : Selection) (scope : Scope) (m : Machine) (tops : List Top) (alone 
         second_of_five (of_expressions (e304.of_another_kind s.at m) (expressions (described s) scope m ws e c)) (of_names (is_of_another_kind s.at) (clause_names (e304.is_selected (described s) number) kinds.Isa c)) (of_words s e c) (of_macro is_other (macro_names (described s) e c.name)) (of_choices ws c.name) kinds_none in
         let nothing : of_names (is_undefined s.at s.elements) (clause_names (e304.is_selected (described s) number) kinds.Isa c) ≡ [] =
         second_of_three (of_expressions (e306.missing s.at m) (expressions (described s) scope m ws e c)) (of_names (is_undefined s.at s.elements) (clause_names (e304.is_selected (described s) number) kinds.Isa c)) (of_macro is_nothing (macro_names (described s) e c.name)) names_none in
-        field_numbered s names name (fits_field s.at s.elements name
+        fits_field s.at s.elements name
         (unsaid_name (is_of_another_kind s.at) name (sym (ap (of_names (is_of_another_kind s.at)) same) ∙ other))
-        (unsaid_name (is_undefined s.at s.elements) name (sym (ap (of_names (is_undefined s.at s.elements)) same) ∙ nothing)))
+        (unsaid_name (is_undefined s.at s.elements) name (sym (ap (of_names (is_undefined s.at s.elements)) same) ∙ nothing))
+
+    -- and has a number
+    named : (name : List ℕ) → form.bundle_field ≡ Some name → is_some (numbered (field_names s) name) ≡ true
+    named name is = field_numbered s names name (field_fits name is)
 
     -- and its instructions are few
     counted : (n : ℤ) → form.parallel_insns ≡ Some n → is_some form.bundle_field ≡ true → nat_le (unsigned_abs n) 8 ≡ true

@@ -7,4 +7,4 @@ use Rattle.cg_fitted.proofs.laws.elements_fit.Goals as goal
 pub returns : goal.returns
 returns c =
     whole_of (seen_described c.args.described.now) (seen c.args.selection.now) (base c.args.scope.now) c.args.machine.now c.args.tops.now
-    c.requires.described c.requires.alone c.requires.elements c.requires.unsaid c.requires.kept c.requires.machine
+    c.requires.described c.requires.alone c.requires.elements c.requires.unsaid c.requires.chosen c.requires.machine
