@@ -9,7 +9,7 @@ use Rattle.cg_clean.proofs.Clauses.{equal_texts}
 use Rattle.cg_insn.specs.declared.syntax.NamedPiece.{NamedPiece}
 use Rattle.cg_insn.specs.declared.syntax.NamedPiece.TheVariants as named
 use Rattle.cg_model.specs.declared.insn.Piece.{Piece}
-use Rattle.cg_model.specs.declared.insn.Piece.TheVariants.{Literal, Slot}
+use Rattle.cg_model.specs.declared.insn.Piece.TheVariants.{Slot}
 use Rattle.cg_model.specs.declared.fault.Said.TheVariants.{Own, Operand}
 use Rattle.cg_model.specs.faults.E313.{is_written, unmatched_from, unmatched}
 use Rattle.cg_model.specs.faults.Finding.{at_place, stands_in}

@@ -20,8 +20,6 @@ use Rattle.cg_insn.specs.declared.form.MacroForm.{MacroForm}
 use Rattle.cg_model.specs.faults.E309.{misplaced}
 use Rattle.cg_model.specs.faults.E316.{no_bundle_bit}
 use Rattle.cg_model.specs.faults.E313.{slot_operands, unmatched, ungiven}
-use Rattle.cg_model.specs.declared.field.Field.{Field}
-use Rattle.cg_model.specs.declared.insn.Insn.{Insn}
 use Rattle.cg_model.specs.declared.insn.MacroInsn.{MacroInsn}
 use Rattle.cg_model.specs.declared.machine.Machine.{Machine}
 use Rattle.cg_names.specs.declared.scope.Scope.{Scope}
