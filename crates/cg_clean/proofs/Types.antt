@@ -19,11 +19,11 @@ use Rattle.cg_clean.proofs.Rules.{elements_there}
 use Rattle.cg_clean.proofs.Told.{These}
 
 -- what is said of a word's kind, word by word
-abbrev by_words : {K A : Type 0} → (Option K → A) → List (Named K) → List ℕ → A
+abbrev pub by_words : {K A : Type 0} → (Option K → A) → List (Named K) → List ℕ → A
 by_words f [] name = f None
 by_words f (h ∷ hs) name = if same_text h.0 name then f (Some h.1) else by_words f hs name
 
-word_by_word : {K A : Type 0} (f : Option K → A) (hs : List (Named K)) (name : List ℕ) → f (kind_among name hs) ≡ by_words f hs name
+pub word_by_word : {K A : Type 0} (f : Option K → A) (hs : List (Named K)) (name : List ℕ) → f (kind_among name hs) ≡ by_words f hs name
 word_by_word f [] name = refl
 word_by_word f (h ∷ hs) name = at (word_by_word f hs name) (same_text h.0 name) where
   at : f (kind_among name hs) ≡ by_words f hs name → (b : Bool) → f (if b then Some h.1 else kind_among name hs) ≡ (if b then f (Some h.1) else by_words f hs name)

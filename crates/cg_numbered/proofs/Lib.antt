@@ -4,4 +4,5 @@ pub mod Names
 pub mod Slots
 pub mod Instructions
 pub mod Macros
+pub mod Registers
 pub mod Whole
