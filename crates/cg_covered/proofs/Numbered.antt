@@ -137,7 +137,7 @@ unfolding declared_by
 known_declares op.Sequence n h = absurd (false≢true h)
 known_declares _ n h = refl
 
-length_both : {A : Type 0} (xs ys : List A) → length (xs ++ ys) ≡ length xs + length ys
+pub length_both : {A : Type 0} (xs ys : List A) → length (xs ++ ys) ≡ length xs + length ys
 length_both [] ys = let plain : length ys ≡ 0 + length ys = omega arith in plain
 length_both (x ∷ xs) ys = let rest : length (xs ++ ys) ≡ length xs + length ys = length_both xs ys in omega (arith, rest)
 
@@ -149,7 +149,7 @@ none_more n k h = omega (arith, h)
 
 module _ (m : Machine) where
   -- All numbers of these expressions name something, inside of so many locals.
-  abbrev AllNamed : ℕ → List Rtl → Type 0
+  abbrev pub AllNamed : ℕ → List Rtl → Type 0
   AllNamed locals [] = Unit {0}
   AllNamed locals (x ∷ xs) = (unnamed_in m x locals ≡ []) × AllNamed locals xs
 
@@ -175,7 +175,7 @@ module _ (m : Machine) where
   uncounted : (locals : ℕ) (o : Op) (n : ℤ) → count_of m locals o ≡ None → is_below (count_of m locals o) n ≡ true
   uncounted locals o n h = ap (λ c. is_below c n) h
 
-  nothing_named : (locals : ℕ) → unnamed_in m nothing locals ≡ []
+  pub nothing_named : (locals : ℕ) → unnamed_in m nothing locals ≡ []
   unfolding count_of
   nothing_named locals = named_leaf locals op.Nop None (pos 0) (uncounted locals op.Nop (pos 0) refl)
 
@@ -205,7 +205,7 @@ module _ (m : Machine) where
   known_below locals op.Halt n h = refl
   known_below locals _ n h = absurd (false≢true h)
 
-  known_node : (locals : ℕ) (o : Op) (mode : Option Mode) (n : ℕ) (items : List Rtl) → is_known o n ≡ true → AllNamed locals items → unnamed_in m (node o mode (pos n) items) locals ≡ []
+  pub known_node : (locals : ℕ) (o : Op) (mode : Option Mode) (n : ℕ) (items : List Rtl) → is_known o n ≡ true → AllNamed locals items → unnamed_in m (node o mode (pos n) items) locals ≡ []
   known_node locals o mode n items h g = named_node locals locals o mode (pos n) items (known_below locals o n h) (none_more locals (declared_by o (pos n)) (known_declares o n h)) g
 
   -- Names, inside of so many locals.

@@ -81,7 +81,7 @@ module _ (p : Purpose) where
   abbrev at : AtNode
   at = outside_at p
 
-  plain : IsPlain at
+  pub plain : IsPlain at
   unfolding outside_at
   plain = record { nothing = refl; constant = λ n. refl; error = λ mode n h. refl }
 

@@ -18,6 +18,7 @@ use Rattle.cg_model.specs.faults.Refusing as refusing
 use Rattle.cg_model.specs.declared.machine.Machine.{Machine}
 use Rattle.cg_names.specs.declared.scope.Scope.{Scope}
 use Rattle.cg_known.specs.Table.{Table, table_of}
+use Rattle.cg_counted.specs.InHand.{IsChosen}
 use Rattle.cg_data.specs.Selecting.{Selection, selection}
 use Rattle.cg_described.specs.Described.{Described, described, scope_of, whole_scope}
 use Rattle.cg_described.specs.Seen.{forms_of}
@@ -41,6 +42,10 @@ describes d scope tops m is none = record { is = is; faultless = none }
 -- what is formed, and clear of faults and clashes, is accepted in hand
 pub accepted_in_hand : (m : Machine) → IsFormed m → refusing.first_refusal m ≡ None → NoClash m → IsAccepted m
 accepted_in_hand m formed none clash = record { formed = formed; faultless = record { elements = none; no_clash = clash } }
+
+-- a selection is chosen whose machine, instruction set and names are found
+pub is_chosen : (s : Selection) → selected_mach s.machine s.elements ≡ Some (s.form, s.mach) → s.isa ≡ selected_isa s.mach (selected_arch s.machine s.elements) → s.at ≡ table_of s.machine s.isa s.elements → IsChosen s
+is_chosen s mach isa at = record { mach = mach; isa = isa; at = at }
 
 pub ruleset answering = (common_steps, element_refuses, clash_refuses, nothing_refuses, describes, accepted_in_hand)
 

@@ -3,11 +3,11 @@
 ghost use Rattle.std.specs.Prelude.{◌≡◌, None, ⊤};
 ghost use Rattle.std.specs.List.{filter_map};
 ghost use Rattle.cg_base.specs.Answering.{Answered};
+ghost use Rattle.cg_counted.specs.InHand.{IsChosen};
 ghost use Rattle.cg_data.specs.Seen.{seen};
 ghost use Rattle.cg_described.specs.Described as description;
-ghost use Rattle.cg_described.specs.Seen.{seen_described};
+ghost use Rattle.cg_described.specs.Seen.{forms_of, seen_described};
 ghost use Rattle.cg_element.specs.Reading as reading;
-ghost use Rattle.cg_known.specs.Table.{table_of};
 ghost use Rattle.cg_desc.specs.Answering as spec;
 ghost use Rattle.cg_model.specs.Formed.{IsFormed};
 ghost use Rattle.cg_model.specs.faults.Accepted.{IsAccepted};
@@ -21,13 +21,12 @@ use cg_ambig::first_clash;
 use cg_base::{Stop, Top};
 use cg_data::Selection;
 use cg_described::{Described, describe, scope_of};
+use cg_faultless::machine_is_faultless;
 use cg_faults::first_by_elements;
 use cg_model::Machine;
 use cg_names::Scope;
-use cg_refuse::first_refusal;
 use cg_selected::machine_of;
 use cg_sound::faultless_is_sound;
-use cg_whole::machine_is_formed;
 use std::alloc::Global;
 
 /// What is answered of a description of which nothing but a clash may be at fault, and whose machine is
@@ -56,29 +55,8 @@ fn judge_clash(
     }
 }
 
-/// What is answered of a description of which no form is at fault. It isn't proved yet that its machine is
-/// without fault in hand: that is asked of the machine once more, and where it were not so, the answer would
-/// be `Stop::NoMemory` with no memory wanting.
-#[tactic(auto, using(crate::proofs::Answers::answering))]
-fn judge_machine(
-    alloc: Global,
-    described: &Described,
-    scope: &Scope,
-    machine: &Machine,
-    tops: &[Top],
-) -> Result<(), Stop>
-    requires formed { IsFormed machine.now }
-    requires elements { by_elements (seen_described described.now) (base scope.now) machine.now tops.now ≡ None }
-    ensures answer { Answered (λ _. spec.IsFaultless (seen_described described.now) (base scope.now) machine.now tops.now) (spec.Refuses (seen_described described.now) (base scope.now) machine.now tops.now) result }
-    ensures accepted { Answered (λ _. IsAccepted machine.now) (λ _. ⊤) result }
-{
-    match first_refusal(alloc, machine)? {
-        Some(_) => Err(Stop::NoMemory),
-        None => judge_clash(alloc, described, scope, machine, tops),
-    }
-}
-
-/// What is answered of a description by its machine.
+/// What is answered of a description by its machine. Where no form is at fault, the machine is formed and has
+/// no fault in hand but a clash.
 #[tactic(auto, using(crate::proofs::Answers::answering))]
 fn judge(
     alloc: Global,
@@ -91,7 +69,8 @@ fn judge(
     requires described { seen_described described.now ≡ description.described (seen selection.now) }
     requires alone { reading.first_refusal tops.now ≡ None }
     requires elements { (seen selection.now).elements ≡ filter_map reading.element_at tops.now }
-    requires names { (seen selection.now).at ≡ table_of (seen selection.now).machine (seen selection.now).isa (seen selection.now).elements }
+    requires chosen { IsChosen (seen selection.now) }
+    requires scope { base scope.old ≡ description.whole_scope (seen selection.now) (forms_of tops.now) }
     requires machine { machine.now ≡ machine_of (seen_described described.now) (base scope.old) }
     ensures answer { Answered (λ _. spec.IsFaultless (seen_described described.now) (base scope.old) machine.now tops.now) (spec.Refuses (seen_described described.now) (base scope.old) machine.now tops.now) result }
     ensures accepted { Answered (λ _. IsAccepted machine.now) (λ _. ⊤) result }
@@ -99,8 +78,8 @@ fn judge(
     match first_by_elements(alloc, scope, described, machine, tops)? {
         Some(refusal) => Err(Stop::Refused(refusal)),
         None => {
-            machine_is_formed(selection, described, scope, machine, tops);
-            judge_machine(alloc, described, scope, machine, tops)
+            machine_is_faultless(selection, described, scope, machine, tops);
+            judge_clash(alloc, described, scope, machine, tops)
         }
     }
 }
@@ -114,10 +93,11 @@ fn machine_by(
     scope: &mut Scope,
     tops: &[Top],
 ) -> Result<Machine, Stop>
+    requires scope { base scope.old ≡ description.whole_scope (seen selection.now) (forms_of tops.now) }
     requires described { seen_described described.now ≡ description.described (seen selection.now) }
     requires alone { reading.first_refusal tops.now ≡ None }
     requires elements { (seen selection.now).elements ≡ filter_map reading.element_at tops.now }
-    requires names { (seen selection.now).at ≡ table_of (seen selection.now).machine (seen selection.now).isa (seen selection.now).elements }
+    requires chosen { IsChosen (seen selection.now) }
     ensures answer { spec.GivesOf (seen_described described.now) (base scope.old) tops.now result }
     ensures accepted { Answered (λ machine. IsAccepted machine) (λ _. ⊤) result }
 {
@@ -137,7 +117,7 @@ fn described_machine(
     requires described { seen_described described.now ≡ description.described (seen selection.now) }
     requires alone { reading.first_refusal tops.now ≡ None }
     requires elements { (seen selection.now).elements ≡ filter_map reading.element_at tops.now }
-    requires names { (seen selection.now).at ≡ table_of (seen selection.now).machine (seen selection.now).isa (seen selection.now).elements }
+    requires chosen { IsChosen (seen selection.now) }
     ensures answer { spec.GivesSelection (seen selection.now) tops.now result }
     ensures accepted { Answered (λ machine. IsAccepted machine) (λ _. ⊤) result }
 {
@@ -155,7 +135,7 @@ pub(crate) fn selected_machine(
 ) -> Result<Machine, Stop>
     requires alone { reading.first_refusal tops.now ≡ None }
     requires elements { (seen selection.now).elements ≡ filter_map reading.element_at tops.now }
-    requires names { (seen selection.now).at ≡ table_of (seen selection.now).machine (seen selection.now).isa (seen selection.now).elements }
+    requires chosen { IsChosen (seen selection.now) }
     ensures answer { spec.GivesSelection (seen selection.now) tops.now result }
     ensures accepted { Answered (λ machine. IsAccepted machine) (λ _. ⊤) result }
 {

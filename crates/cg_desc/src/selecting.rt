@@ -1,9 +1,10 @@
 //! The machine of a name.
 
-ghost use Rattle.std.specs.Prelude.{◌≡◌, None, ⊤};
+ghost use Rattle.std.specs.Prelude.{◌≡◌, Some, None, ⊤};
 ghost use Rattle.std.specs.List.{filter_map};
 ghost use Rattle.cg_base.specs.Answering.{Answered};
 ghost use Rattle.cg_desc.specs.Answering as spec;
+ghost use Rattle.cg_element.specs.E318.{selected_mach};
 ghost use Rattle.cg_element.specs.Reading as reading;
 ghost use Rattle.cg_model.specs.faults.Accepted.{IsAccepted};
 
@@ -27,6 +28,7 @@ fn machine_at(
 ) -> Result<Machine, Stop>
     requires alone { reading.first_refusal tops.now ≡ None }
     requires elements { elements.now ≡ filter_map reading.element_at tops.now }
+    requires mach { selected_mach name.now elements.now ≡ Some (number, mach.now) }
     ensures answer { spec.GivesAt name.now elements.now tops.now number mach.now result }
     ensures accepted { Answered (λ machine. IsAccepted machine) (λ _. ⊤) result }
 {
@@ -75,9 +77,7 @@ fn machine_among(
 /// (docs/REFUSALS.md). Such a machine is accepted in hand, so that its instructions may be matched and
 /// encoded.
 ///
-/// An error `Stop::NoMemory` is want of memory; but it isn't proved yet that a machine whose description
-/// has no fault has none in hand. So the machine is asked once more, and one that had a fault would be
-/// answered by `Stop::NoMemory` too, though no memory is wanting.
+/// An error `Stop::NoMemory` is want of memory.
 #[tactic(auto, using(crate::proofs::Answers::reading))]
 pub fn machine(alloc: Global, forms: &Forms, name: &Text) -> Result<Machine, Stop>
     ensures answer { spec.GivesDescription name.now forms.now.tops result }

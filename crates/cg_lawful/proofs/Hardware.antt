@@ -43,11 +43,11 @@ use Rattle.cg_lawful.proofs.Opened.{Opened, opened}
 use Rattle.cg_lawful.proofs.Ruled.{clause_formed}
 use Rattle.cg_lawful.proofs.Unsaid.{Unsaid, none_missing, none_of_clause}
 
-same_rule : (content : List Form) → hardware_rule (Items content) ≡ expression content
+pub same_rule : (content : List Form) → hardware_rule (Items content) ≡ expression content
 unfolding hardware_rule
 same_rule content = ap (λ o. o >>= expression) (elements_items content)
 
-clear_in : (elements : List Form) (name : List ℕ) (x : Stands elements name) → IsClear (optional_form name elements >>= elements_of >>= expression) → IsClear (expression x.content)
+pub clear_in : (elements : List Form) (name : List ℕ) (x : Stands elements name) → IsClear (optional_form name elements >>= elements_of >>= expression) → IsClear (expression x.content)
 clear_in elements name x h = subst IsClear (ap (λ o. option_map Items o >>= elements_of >>= expression) (content_stands elements name x) ∙ ap (λ o. o >>= expression) (elements_items x.content)) h
 
 module _ (d : Described) (scope : Scope) (m : Machine) (number : ℕ) (f : Form) where

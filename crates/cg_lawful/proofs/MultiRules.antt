@@ -70,7 +70,7 @@ nothing_formed : is_formed nothing ≡ true
 nothing_formed = both_hold (stands nothing expression) (nat_le (depth nothing) 64) nothing_stands shallow_nothing
 
 -- the expression of the first
-abbrev first_rtl : Scope → Option (List ℕ × Form) → Rtl
+abbrev pub first_rtl : Scope → Option (List ℕ × Form) → Rtl
 first_rtl s o = elim o [ None ↦ nothing | Some x ↦ rtl_of s x.1 ]
 
 first_formed : (at : Table) (m : Machine) (s : Scope) (own : List ℕ) (subs : List ℕ) (w : Wanted) → gives_value s ≡ true → (xs : List (List ℕ × Form)) → Clears xs → of_expressions (e306.missing at m) (sets_from m own s subs 0 xs) ≡ [] → of_rtl m own w (first_rtl s (first xs)) ≡ [] → is_formed (first_rtl s (first xs)) ≡ true
@@ -86,7 +86,7 @@ pub record Sets (elements : List Form) (name : List ℕ) (sets : List Form) : Ty
   pub written : expressions.sets_in (record { name = name; content = stands.content; elements = elements }) ≡ filter_map set_of sets
   pub read : rules.sets_in (wanted_form name elements) ≡ filter_map set_of sets
 
-sets_of_clause : (elements : List Form) (name : List ℕ) (h : HasSets (wanted_form name elements)) → Sets elements name h.sets
+pub sets_of_clause : (elements : List Form) (name : List ℕ) (h : HasSets (wanted_form name elements)) → Sets elements name h.sets
 unfolding sets_of
 sets_of_clause elements name h = by (content_at name elements) refl where
   by : (o : Option (List Form)) → content_at name elements ≡ o → Sets elements name h.sets
@@ -157,7 +157,7 @@ abbrev multi_or : MultiForm → FieldForm → MultiForm
 multi_or x (field.Multi y) = y
 multi_or x _ = x
 
-multi_opened : (f : Form) (form : MultiForm) (o : Opened kind_named field_in f (field.Multi form)) → (P : MultiForm → Type 0) → ((head : List ℕ) (elements : List Form) → headed f ≡ Some (head, elements) → P (multi_in elements)) → P form
+pub multi_opened : (f : Form) (form : MultiForm) (o : Opened kind_named field_in f (field.Multi form)) → (P : MultiForm → Type 0) → ((head : List ℕ) (elements : List Form) → headed f ≡ Some (head, elements) → P (multi_in elements)) → P form
 multi_opened f form o P all = by o.kind refl where
   by : (k : FieldKind) → o.kind ≡ k → P form
   by kind.Multi is = subst P (ap (multi_or form) (sym (ap (λ k. field_in k o.elements) is) ∙ o.gives)) (all o.head o.elements o.is)

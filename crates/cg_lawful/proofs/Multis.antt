@@ -40,7 +40,7 @@ clears (f ∷ fs) h = at (set_of f) h.0 (clears fs h.1) where
   at (Some x) c rest = (c, rest)
 
 -- of a name that is set, there is one
-under_some : (name : List ℕ) (fs : List Form) → list_any (sets_field name) fs ≡ true → is_some (found_under name (filter_map set_of fs)) ≡ true
+pub under_some : (name : List ℕ) (fs : List Form) → list_any (sets_field name) fs ≡ true → is_some (found_under name (filter_map set_of fs)) ≡ true
 under_some name [] h = absurd (false≢true h)
 under_some name (f ∷ fs) h = at (under_some name fs) (set_of f) h where
   here : (list_any (sets_field name) fs ≡ true → is_some (found_under name (filter_map set_of fs)) ≡ true) → (x : List ℕ × Form) (b : Bool) → (b || list_any (sets_field name) fs) ≡ true → is_some (if b then Some x.1 else found_under name (filter_map set_of fs)) ≡ true

@@ -29,7 +29,7 @@ use Rattle.cg_whole.proofs.Chosen.{choices_clear}
 use Rattle.cg_whole.proofs.Own.{semantics_formed, assertion_formed}
 
 -- what an instruction asserts itself, by its form and its choices
-asserted_so : (s : Selection) (w : Written) (o : FromForm s w) → w.assertion ≡ option_map (own_assertion o.chosen) (option_map expression_in o.form.ifield_assertion)
+pub asserted_so : (s : Selection) (w : Written) (o : FromForm s w) → w.assertion ≡ option_map (own_assertion o.chosen) (option_map expression_in o.form.ifield_assertion)
 unfolding with_choices written_of
 asserted_so s w o = ap (λ x. x.assertion) o.written
 

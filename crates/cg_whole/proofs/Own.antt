@@ -65,14 +65,14 @@ none_of_both f (x ∷ xs) ys h =
     let rest : (flat_map f xs ≡ []) × (flat_map f ys ≡ []) = none_of_both f xs ys here.1 in
     (rw here.0 rest.0, rest.1)
 
-none_of_each : {A B C : Type 0} (f : B → List C) (g : A → List B) (xs : List A) → flat_map f (flat_map g xs) ≡ [] → flat_map (λ x. flat_map f (g x)) xs ≡ []
+pub none_of_each : {A B C : Type 0} (f : B → List C) (g : A → List B) (xs : List A) → flat_map f (flat_map g xs) ≡ [] → flat_map (λ x. flat_map f (g x)) xs ≡ []
 none_of_each f g [] h = refl
 none_of_each f g (x ∷ xs) h =
     let both : (flat_map f (g x) ≡ []) × (flat_map f (flat_map g xs) ≡ []) = none_of_both f (g x) (flat_map g xs) h in
     rw both.0 (none_of_each f g xs both.1)
 
 -- of one instruction among those of a form
-of_one : {C : Type 0} (f : Written → List C) (form : ℕ) (all : List Written) (w : Written) → IsIn all w → w.form ≡ form → flat_map f (of_form form all) ≡ [] → f w ≡ []
+pub of_one : {C : Type 0} (f : Written → List C) (form : ℕ) (all : List Written) (w : Written) → IsIn all w → w.form ≡ form → flat_map f (of_form form all) ≡ [] → f w ≡ []
 of_one f form all w i same none =
     let test : is_of_form form w ≡ true = grind (arith, nat_tests) in
     filtered_none f (is_of_form form) all w none i test
@@ -97,7 +97,7 @@ none_first [] [] none = (refl, refl)
 none_first [] (y ∷ b) none = absurd cc
 none_first (x ∷ a) b none = absurd cc
 
-shape_clear : (f : Form) → wrong_shape f ≡ [] → faults_in f ≡ []
+pub shape_clear : (f : Form) → wrong_shape f ≡ [] → faults_in f ≡ []
 shape_clear f none = let both : (wrong_in f ≡ []) × (left_out_in f ≡ []) = none_first (wrong_in f) (left_out_in f) none in no_flaw (faults_in f) both.0 both.1
 
 -- Assertions that are joined are formed, where each stands and all have a mode.

@@ -1,0 +1,12 @@
+pub mod One
+pub mod Texts
+pub mod Rules
+pub mod Each
+pub mod Quiet
+pub mod Fields
+pub mod Heard
+pub mod Naming
+pub mod Hardware
+pub mod Multis
+pub mod Insns
+pub mod Whole
