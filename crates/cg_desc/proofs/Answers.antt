@@ -18,7 +18,7 @@ use Rattle.cg_model.specs.faults.Refusing as refusing
 use Rattle.cg_model.specs.declared.machine.Machine.{Machine}
 use Rattle.cg_names.specs.declared.scope.Scope.{Scope}
 use Rattle.cg_known.specs.Table.{Table, table_of}
-use Rattle.cg_counted.specs.InHand.{IsChosen}
+use Rattle.cg_lawful.specs.InHand.{IsChosen}
 use Rattle.cg_data.specs.Selecting.{Selection, selection}
 use Rattle.cg_described.specs.Described.{Described, described, scope_of, whole_scope}
 use Rattle.cg_described.specs.Seen.{forms_of}

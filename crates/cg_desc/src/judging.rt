@@ -3,7 +3,7 @@
 ghost use Rattle.std.specs.Prelude.{◌≡◌, None, ⊤};
 ghost use Rattle.std.specs.List.{filter_map};
 ghost use Rattle.cg_base.specs.Answering.{Answered};
-ghost use Rattle.cg_counted.specs.InHand.{IsChosen};
+ghost use Rattle.cg_lawful.specs.InHand.{IsChosen};
 ghost use Rattle.cg_data.specs.Seen.{seen};
 ghost use Rattle.cg_described.specs.Described as description;
 ghost use Rattle.cg_described.specs.Seen.{forms_of, seen_described};
@@ -21,8 +21,8 @@ use cg_ambig::first_clash;
 use cg_base::{Stop, Top};
 use cg_data::Selection;
 use cg_described::{Described, describe, scope_of};
-use cg_faultless::machine_is_faultless;
 use cg_faults::first_by_elements;
+use cg_lawful::machine_is_faultless;
 use cg_model::Machine;
 use cg_names::Scope;
 use cg_selected::machine_of;
