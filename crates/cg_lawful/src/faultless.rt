@@ -13,10 +13,10 @@ ghost use Rattle.cg_selected.specs.Seen.{base};
 
 use crate::counted::counts_are_kept;
 use crate::fitted::elements_fit;
+use crate::machine::machine_is_formed;
 use crate::meant::expressions_are_meant;
 use crate::numbered::numbers_name_elements;
 use crate::unrefused::no_element_is_refused;
-use crate::whole::machine_is_formed;
 use cg_base::Top;
 use cg_data::Selection;
 use cg_described::Described;

@@ -1,7 +1,7 @@
 use Rattle.cg_data.specs.Seen.{seen}
 use Rattle.cg_described.specs.Seen.{seen_described}
 use Rattle.cg_lawful.proofs.WholeWhole.{whole_of}
-use Rattle.cg_lawful.proofs.whole.machine_is_formed.Goals as goal
+use Rattle.cg_lawful.proofs.machine.machine_is_formed.Goals as goal
 
 pub returns : goal.returns
 returns c =
