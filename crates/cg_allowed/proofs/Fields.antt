@@ -11,9 +11,9 @@ use Rattle.cg_base.specs.declared.form.Top.{Top}
 use Rattle.cg_base.specs.declared.mode.Mode.TheVariants.{Qi, Hi, Si, Di, Uqi, Uhi, Usi, Udi}
 use Rattle.cg_base.specs.Texts.{same_text}
 use Rattle.cg_attrs.specs.Contents.{is_bit_size}
-use Rattle.cg_clean.specs.Sizes.{IsNumber, HasPlace}
-use Rattle.cg_clean.proofs.Sizes.{sizes_law}
-use Rattle.cg_clean.proofs.Elements.{Given}
+use Rattle.cg_allowed.specs.FormSizes.{IsNumber, HasPlace}
+use Rattle.cg_allowed.proofs.FormSizes.{sizes_law}
+use Rattle.cg_allowed.proofs.Elements.{Given}
 use Rattle.cg_data.specs.Selecting.{Selection}
 use Rattle.cg_data.specs.Framing.{cut, size, framing}
 use Rattle.cg_data.specs.Extents.{mode_or_uint, base_word, word_in, word_of}

@@ -8,9 +8,9 @@ use Rattle.cg_attrs.specs.Contents.{is_bit_size, is_word_size}
 use Rattle.cg_attrs.specs.declared.frame.CpuForm.{CpuForm}
 use Rattle.cg_attrs.specs.declared.frame.IsaForm.{IsaForm}
 use Rattle.cg_attrs.specs.declared.frame.Frame.TheVariants.{Cpu, Isa}
-use Rattle.cg_clean.specs.Sizes.{HasWord, HasSize}
-use Rattle.cg_clean.proofs.Sizes.{sizes_law}
-use Rattle.cg_clean.proofs.Elements.{Given, given_at}
+use Rattle.cg_allowed.specs.FormSizes.{HasWord, HasSize}
+use Rattle.cg_allowed.proofs.FormSizes.{sizes_law}
+use Rattle.cg_allowed.proofs.Elements.{Given, given_at}
 use Rattle.cg_element.specs.declared.element.Element.{Element}
 use Rattle.cg_element.specs.declared.element.Element.TheVariants as element
 use Rattle.cg_element.specs.declared.kind.Namespace.{Namespace}

@@ -12,9 +12,9 @@ use Rattle.cg_base.specs.declared.mode.Mode.TheVariants.{Bi, Qi, Hi, Si, Di, Uqi
 use Rattle.cg_base.specs.ModeWords.{is_value_mode}
 use Rattle.cg_base.specs.Parts.{◌>>=◌, Layer, Headed, headed, symbol_in, symbol_of, elements_in, elements_of, number_of}
 use Rattle.cg_base.specs.Texts.{same_text, passes}
-use Rattle.cg_clean.specs.Forms.{is_type, HasRules}
-use Rattle.cg_clean.proofs.Elements.{Given}
-use Rattle.cg_clean.proofs.Hardware.{hardware_law}
+use Rattle.cg_allowed.specs.Forms.{is_type, HasRules}
+use Rattle.cg_allowed.proofs.Elements.{Given}
+use Rattle.cg_allowed.proofs.FormHardware.{hardware_law}
 use Rattle.cg_element.specs.declared.element.Element.{Element}
 use Rattle.cg_element.specs.declared.element.Element.TheVariants as element
 use Rattle.cg_element.specs.Reading.{element_at, first_refusal}

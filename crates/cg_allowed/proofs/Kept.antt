@@ -2,9 +2,9 @@
 use Rattle.std.proofs.Common.{◌≡◌, ◌∙◌, true, List, Option, Some, None, refl, ap}
 use Rattle.std.specs.List.{filter_map}
 use Rattle.cg_base.specs.declared.form.Top.{Top}
-use Rattle.cg_clean.specs.Forms.{HasFields}
-use Rattle.cg_clean.proofs.Codes.{multis_law}
-use Rattle.cg_clean.proofs.Elements.{Given}
+use Rattle.cg_allowed.specs.Forms.{HasFields}
+use Rattle.cg_allowed.proofs.Codes.{multis_law}
+use Rattle.cg_allowed.proofs.Elements.{Given}
 use Rattle.cg_data.specs.Selecting.{Selection, members}
 use Rattle.cg_data.specs.Framing.{framing}
 use Rattle.cg_data.specs.Numbering.{field_in, multi_in}

@@ -1,7 +1,7 @@
 -- What holds of each element that takes part holds of all that they give.
 use Rattle.std.proofs.Common.{◌≡◌, ◌∙◌, ℕ, suc, Bool, true, false, ◌&&◌, if◌then◌else◌, List, [], ◌∷◌, ◌++◌, map, Option, Some, None, slice_get, refl, ap}
 use Rattle.std.specs.List.{list_all, filter_map, cons_option}
-use Rattle.cg_clean.proofs.Clauses.{first_true, second_true}
+use Rattle.cg_allowed.proofs.Clauses.{first_true, second_true}
 use Rattle.cg_element.specs.declared.element.Element.{Element}
 use Rattle.cg_data.specs.Selecting.{Selection, takes_part_in, member, members}
 use Rattle.cg_allowed.proofs.Framing.{IsElement}

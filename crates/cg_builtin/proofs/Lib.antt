@@ -4,3 +4,4 @@ pub mod Values
 pub mod Same
 pub mod Equality
 pub mod Numbers
+pub mod Rules

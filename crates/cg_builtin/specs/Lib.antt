@@ -9,3 +9,5 @@ pub mod Manners
 pub mod Depths
 pub mod Values
 pub mod Falls
+pub mod Replacing
+pub mod Hiding

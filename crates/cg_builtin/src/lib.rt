@@ -7,6 +7,7 @@ mod body;
 mod built_in;
 mod calls;
 mod fault;
+mod replacing;
 mod shapes;
 mod sizes;
 mod texts;
@@ -17,6 +18,7 @@ pub use body::{Binding, Body, Macro};
 pub use built_in::{BuiltIn, Manner, built_in_of};
 pub use calls::{iota, ordinary};
 pub use fault::{Halt, faulty};
+pub use replacing::{replaced, without, without_name};
 pub use shapes::{
     begins_with_dot, called, copy, elements, form_symbol, head_name, is_among, is_list, is_named,
     is_value, macro_named, names_of, own_symbol, pair_of, plain, pmacro_form, same_form, written,

@@ -13,11 +13,10 @@ use crate::expressions::{
 };
 use crate::texts::{first_long_literal, first_long_of_all, first_long_text, first_long_word};
 use cg_base::NoMemory;
-use cg_circular::first_circular;
+use cg_purity::{first_circular, Standing, first_no_register, first_unnamed};
 use cg_model::{
     Field, Hardware, Insn, Machine, MachineFault, MacroInsn, Multi, Operand, Part, Purpose, Rtl,
 };
-use cg_purity::{Standing, first_no_register, first_unnamed};
 use cg_rules::{
     first_bundled, first_long_insn, first_long_syntax, first_misplaced, first_no_bundle,
     first_no_bundle_bit, first_no_emitted, first_no_sub, first_of_too_many_insns, first_overlap,

@@ -8,7 +8,7 @@ use crate::front::front_of;
 use cg_base::{List, NoMemory, Text};
 use cg_model::{Insn, Machine, MacroInsn, Mark, Part, Piece};
 use cg_spelling::{Keywords, keywords_of};
-use cg_squeeze::squeezed_syntax;
+use cg_split::squeezed_syntax;
 use std::alloc::Global;
 
 /// How an instruction or a macro instruction is written.

@@ -21,8 +21,7 @@ use cg_base::{List, NoMemory, Refusal, Stop, Text};
 use cg_code::insn_at;
 use cg_fitting::{Misfit, Sums, fit, misfit_refusal};
 use cg_model::{Insn, Machine};
-use cg_split::{Filled, split};
-use cg_squeeze::squeezed;
+use cg_split::{Filled, split, squeezed};
 use std::alloc::Global;
 
 /// What is chosen for a text.

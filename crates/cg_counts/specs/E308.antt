@@ -34,7 +34,7 @@ use Rattle.cg_expanded.specs.Written.{all_pieces}
 use Rattle.cg_data.specs.Selecting.{Selection}
 use Rattle.cg_data.specs.Hardware.{words}
 use Rattle.cg_described.specs.Described.{Described}
-use Rattle.cg_timing.specs.Timing.{cycles_of}
+use Rattle.cg_described.specs.Timing.{cycles_of}
 use Rattle.cg_selected.specs.Instructions.{slot_names, pieces_of, insn_by}
 use Rattle.cg_selected.specs.Macros.{macro_slots, target_of}
 use Rattle.cg_said.specs.declared.saying.Saying.{Saying}

@@ -6,7 +6,7 @@ ghost use Rattle.cg_counts.specs.E314 as spec;
 ghost use Rattle.cg_said.specs.Subject.{described_in, machine_in, element_in};
 
 use cg_base::NoMemory;
-use cg_circular::first_circular as circular;
+use cg_purity::first_circular as circular;
 use cg_element::Element;
 use cg_hw::HardwareForm;
 use cg_model::Machine;

@@ -17,7 +17,7 @@ use crate::passing::{Found, Passed, passing, too_many};
 use cg_attrs::{IsaForm, ModelForm};
 use cg_choices::Written;
 use cg_data::{Selection, words};
-use cg_described::Described;
+use cg_described::{Described, cycles_of};
 use cg_expanded::all_pieces;
 use cg_hw::HardwareForm;
 use cg_insn::{InstructionForm, MacroForm};
@@ -26,7 +26,6 @@ use cg_names::Scope;
 use cg_rules::bytes_of;
 use cg_said::Subject;
 use cg_selected::{insn_by, macro_slots, pieces_of, slot_names, target_of};
-use cg_timing::cycles_of;
 use std::alloc::Global;
 
 /// How many words a keyword has that may be absent.

@@ -1,3 +1,4 @@
 pub mod Among
 pub mod Within
 pub mod ByForms
+pub mod Last

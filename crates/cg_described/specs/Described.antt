@@ -22,7 +22,7 @@ use Rattle.cg_data.specs.Extents.{fields_of}
 use Rattle.cg_data.specs.Multis.{multis_of}
 use Rattle.cg_data.specs.Hardware.{hardware_list}
 use Rattle.cg_data.specs.Operands.{operands_of, constants}
-use Rattle.cg_timing.specs.Timing.{first_model}
+use Rattle.cg_described.specs.Timing.{first_model}
 use Rattle.cg_described.specs.Bare.{bare_names, bare_operand}
 use Rattle.cg_described.specs.Texts.{all_texts}
 

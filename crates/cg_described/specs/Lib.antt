@@ -4,3 +4,5 @@ pub mod Texts
 pub mod Described
 pub mod Seen
 pub mod ByForm
+pub mod Timing
+pub mod Lent

@@ -19,7 +19,7 @@ use cg_expanded::expanded;
 use cg_known::Item;
 use cg_model::{Field, Hardware, Multi, Operand};
 use cg_names::{EnumValue, Rule, Scope};
-use cg_timing::first_model;
+use crate::first_model;
 use std::alloc::Global;
 
 /// What a description says of a machine before its expressions are read: all that their names stand for.

@@ -18,7 +18,7 @@ use Rattle.cg_builtin.specs.Sizes.{nodes, lists}
 use Rattle.cg_base.specs.Parts.{elements_of}
 use Rattle.cg_builtin.specs.Shapes.{same_form, written, called, head_name, own_symbol, elements, is_list, pmacro_form, pmacro_head, pair_of, binding, formal_names, macro_named, begins_with_dot}
 use Rattle.cg_builtin.specs.BuiltIns.{name_of, built_in, is_lazy, miscounted, misfit, is_false, iota_of, ordinary}
-use Rattle.cg_replacing.specs.Replacing.{Table, replaced, without}
+use Rattle.cg_builtin.specs.Replacing.{Table, replaced, without}
 
 -- How a form expands: the innermost macro or built-in macro around it, and whether it is an argument of `.splice`.
 abbrev pub Expander : Type 0

@@ -12,7 +12,7 @@ use Rattle.cg_builtin.specs.declared.built_in.Manner.TheVariants as way
 use Rattle.cg_builtin.specs.Outcome.{Answer, Paid, ◌>>=◌, pure, fails, lift, each}
 use Rattle.cg_builtin.specs.Shapes.{binding}
 use Rattle.cg_builtin.specs.BuiltIns.{name_of, miscounted, misfit, iota_of, ordinary}
-use Rattle.cg_replacing.specs.Replacing.{Table, without}
+use Rattle.cg_builtin.specs.Replacing.{Table, without}
 use Rattle.cg_expander.specs.Expansion.{Expander, Kind, too_deep, comes_to, expanded, chosen, take_if, take_cond, take_case, let_binding, let_in_order, let_bindings, let_body, stray_pmacro, is_callable, are_lists, results, call_of, elements_or_none, m_and_lists, spliced_list}
 use Rattle.cg_builtin.specs.Manners.{affordable, manner, is_for_each, is_apply}
 

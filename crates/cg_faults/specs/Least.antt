@@ -11,7 +11,7 @@ use Rattle.cg_element.specs.Elements.{kind_of}
 use Rattle.cg_model.specs.declared.machine.Machine.{Machine}
 use Rattle.cg_names.specs.declared.scope.Scope.{Scope}
 use Rattle.cg_references.specs.Clauses.{clauses_of}
-use Rattle.cg_repeated.specs.E305.{e305}
+use Rattle.cg_references.specs.E305.{e305}
 use Rattle.cg_choices.specs.declared.written.Written.{Written}
 use Rattle.cg_expanded.specs.E317.{form_over, e317}
 use Rattle.cg_data.specs.Selecting.{takes_part_in}

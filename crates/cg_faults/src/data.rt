@@ -4,7 +4,7 @@ ghost use Rattle.std.specs.Prelude.{◌≡◌, map, IfOk};
 ghost use Rattle.cg_base.specs.Refusing.{first};
 ghost use Rattle.cg_expanded.specs.E317.{e317};
 ghost use Rattle.cg_known.specs.Table.{known};
-ghost use Rattle.cg_repeated.specs.E305.{e305};
+ghost use Rattle.cg_references.specs.E305.{e305};
 ghost use Rattle.cg_said.specs.Saying.{least_said, only_text};
 ghost use Rattle.cg_said.specs.Subject.{described_in, machine_in, element_in, form_in, insns_in};
 ghost use Rattle.cg_selected.specs.Seen.{base};
@@ -22,7 +22,7 @@ use cg_formats::{
 };
 use cg_named::{first_missing, first_of_another_kind};
 use cg_names::Scope;
-use cg_repeated::first_repeated;
+use cg_references::first_repeated;
 use cg_said::{Saying, Subject, only_text};
 use std::alloc::Global;
 

@@ -5,7 +5,7 @@ use Rattle.cg_base.specs.declared.form.Top.{Top}
 use Rattle.cg_base.specs.declared.form.Forms.{Forms}
 use Rattle.cg_base.specs.declared.refusal.Refusal.{Refusal}
 use Rattle.cg_base.specs.Reading.{Reads, IsFault}
-use Rattle.cg_sexp.specs.Laws.{one_list, one_fault, not_both}
+use Rattle.cg_sexp.proofs.Laws.{one_list, one_fault, not_both}
 use Rattle.cg_io.specs.Held.{Held}
 use Rattle.cg_pmacro.specs.declared.tops.TheConstants.{SHORT_FORMS}
 use Rattle.cg_gather.specs.declared.gathering.Fetched.{Fetched}

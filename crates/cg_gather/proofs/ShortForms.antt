@@ -4,7 +4,7 @@ use Rattle.cg_base.specs.declared.form.Top.{Top}
 use Rattle.cg_base.specs.declared.refusal.Refusal.{Refusal}
 use Rattle.cg_base.specs.Grammar.{token}
 use Rattle.cg_base.specs.Reading.{IsFault}
-use Rattle.cg_sexp.specs.Laws.{fault_given}
+use Rattle.cg_sexp.proofs.Laws.{fault_given}
 use Rattle.cg_pmacro.specs.declared.tops.TheConstants.{SHORT_FORMS}
 
 abbrev refuses : Result (List Top) Refusal → Type 0

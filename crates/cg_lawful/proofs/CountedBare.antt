@@ -13,8 +13,8 @@ use Rattle.cg_attrs.specs.declared.frame.Frame.{Frame}
 use Rattle.cg_attrs.specs.declared.frame.Frame.TheVariants as frame
 use Rattle.cg_ifield.specs.declared.form.FieldForm.TheVariants as field
 use Rattle.cg_insn.specs.declared.form.InsnForm.TheVariants as insn
-use Rattle.cg_clean.proofs.Clauses.{equal_texts}
-use Rattle.cg_clean.proofs.Lists.{the_found}
+use Rattle.cg_allowed.proofs.Clauses.{equal_texts}
+use Rattle.cg_allowed.proofs.Lists.{the_found}
 use Rattle.cg_choices.specs.declared.written.Choice.{Choice}
 use Rattle.cg_choices.specs.declared.written.NamedPart.{NamedPart}
 use Rattle.cg_choices.specs.declared.written.NamedPart.TheVariants as part

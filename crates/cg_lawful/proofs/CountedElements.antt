@@ -8,7 +8,7 @@ use Rattle.cg_allowed.proofs.Framing.{IsElement}
 use Rattle.cg_allowed.proofs.Hardware.{hardware_given}
 use Rattle.cg_allowed.proofs.Kept.{field_given, multi_given}
 use Rattle.cg_allowed.proofs.Members.{IsMember}
-use Rattle.cg_clean.proofs.Lists.{the_found}
+use Rattle.cg_allowed.proofs.Lists.{the_found}
 use Rattle.cg_counts.specs.E308.{word_text, literals, insn_texts}
 use Rattle.cg_choices.specs.declared.written.Written.{Written}
 use Rattle.cg_choices.specs.declared.written.WrittenPiece.{WrittenPiece}

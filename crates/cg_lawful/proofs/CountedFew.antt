@@ -3,7 +3,7 @@ use Rattle.std.proofs.Common.{◌≡◌, ◌∙◌, ℕ, suc, ◌+◌, ◌≤◌
 use Rattle.std.specs.List.{filter_map}
 use Rattle.std.specs.Option.{option_or}
 use Rattle.cg_base.specs.declared.form.Top.{Top}
-use Rattle.cg_clean.proofs.Lists.{append_none}
+use Rattle.cg_allowed.proofs.Lists.{append_none}
 use Rattle.cg_counts.specs.declared.counts.Counts.{Counts}
 use Rattle.cg_counts.specs.Counts.{nothing_before, nodes_of}
 use Rattle.cg_counts.specs.E308.{of_counts, of_elements, of_others, passed}

@@ -3,7 +3,7 @@ use Rattle.std.proofs.Common.{◌≡◌, ◌∙◌, ℕ, zero, suc, Bool, true, 
 use Rattle.std.specs.List.{filter_map, cons_option, flat_map}
 use Rattle.cg_allowed.proofs.Framing.{IsElement}
 use Rattle.cg_allowed.proofs.Members.{IsMember}
-use Rattle.cg_clean.proofs.Lists.{the_found}
+use Rattle.cg_allowed.proofs.Lists.{the_found}
 use Rattle.cg_data.specs.Selecting.{Selection, takes_part_in, member, members}
 use Rattle.cg_element.specs.declared.element.Element.{Element}
 use Rattle.cg_lawful.proofs.Members.{AllHold, IsIn}

@@ -7,8 +7,8 @@ use Rattle.cg_base.specs.declared.form.Top.{Top}
 use Rattle.cg_base.specs.Texts.{same_text, is_among}
 use Rattle.cg_attrs.specs.declared.frame.Frame.TheVariants.{Mach}
 use Rattle.cg_attrs.specs.declared.frame.MachForm.{MachForm}
-use Rattle.cg_clean.proofs.Clauses.{equal_texts, first_true, second_true}
-use Rattle.cg_clean.proofs.Lists.{the_found}
+use Rattle.cg_allowed.proofs.Clauses.{equal_texts, first_true, second_true}
+use Rattle.cg_allowed.proofs.Lists.{the_found}
 use Rattle.cg_data.specs.Selecting.{Selection, takes_part_in}
 use Rattle.cg_described.specs.Described.{described, written_in}
 use Rattle.cg_described.specs.Seen.{forms_of}

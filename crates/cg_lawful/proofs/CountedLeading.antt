@@ -2,8 +2,8 @@
 use Rattle.std.proofs.Common.{◌≡◌, ℕ, suc, ◌+◌, Bool, true, false, if◌then◌else◌, List, [], ◌∷◌, Option, Some, None, slice_get, refl, subst, arith}
 use Rattle.std.specs.Option.{option_or}
 use Rattle.cg_base.specs.Texts.{same_text}
-use Rattle.cg_clean.proofs.Clauses.{equal_texts, first_true, second_true}
-use Rattle.cg_clean.proofs.Lists.{the_found}
+use Rattle.cg_allowed.proofs.Clauses.{equal_texts, first_true, second_true}
+use Rattle.cg_allowed.proofs.Lists.{the_found}
 use Rattle.cg_element.specs.declared.element.Element.{Element}
 use Rattle.cg_element.specs.declared.kind.Namespace.{Namespace}
 use Rattle.cg_element.specs.Elements.{kind_of}

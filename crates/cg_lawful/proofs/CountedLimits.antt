@@ -3,7 +3,7 @@ use Rattle.std.proofs.Common.{◌≡◌, ◌∙◌, ℕ, ◌+◌, ◌≤◌, Boo
 use Rattle.std.specs.Option.{option_or}
 use Rattle.std.proofs.lemmas.Bool.Decides.{nat_tests}
 use Rattle.cg_base.specs.declared.form.Top.{Top}
-use Rattle.cg_clean.proofs.Lists.{append_none}
+use Rattle.cg_allowed.proofs.Lists.{append_none}
 use Rattle.cg_counts.specs.declared.counts.Counts.{Counts}
 use Rattle.cg_counts.specs.Counts.{Before, together, counts_at, counts_by, bare_of, texts_of}
 use Rattle.cg_counts.specs.Known.{count_new}

@@ -1,7 +1,7 @@
 -- How many of some texts are new is how many they are, each counted once.
 use Rattle.std.proofs.Common.{◌≡◌, ◌∙◌, ℕ, suc, ◌+◌, Bool, true, false, ◌||◌, if◌then◌else◌, List, [], ◌∷◌, ◌++◌, length, refl, sym, ap, arith}
 use Rattle.cg_base.specs.Texts.{same_text, is_among}
-use Rattle.cg_clean.proofs.Clauses.{equal_texts}
+use Rattle.cg_allowed.proofs.Clauses.{equal_texts}
 use Rattle.cg_counts.specs.Known.{Standing, nothing, with_one, with_all, count_new}
 use Rattle.cg_expanded.specs.Choices.{distinct_behind, distinct}
 

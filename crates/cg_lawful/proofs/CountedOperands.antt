@@ -5,7 +5,7 @@ use Rattle.std.proofs.lemmas.Bool.{false≢true}
 use Rattle.cg_base.specs.declared.form.Top.{Top}
 use Rattle.cg_attrs.specs.declared.frame.Frame.{Frame}
 use Rattle.cg_attrs.specs.declared.frame.Frame.TheVariants as frame
-use Rattle.cg_clean.proofs.Lists.{the_found}
+use Rattle.cg_allowed.proofs.Lists.{the_found}
 use Rattle.cg_counts.specs.E308.{kept_texts}
 use Rattle.cg_choices.specs.declared.written.Written.{Written}
 use Rattle.cg_data.specs.Selecting.{Selection, members}

@@ -4,7 +4,7 @@ use Rattle.std.specs.List.{filter_map}
 use Rattle.cg_base.specs.declared.form.Top.{Top}
 use Rattle.cg_base.specs.Refusing.{least}
 use Rattle.cg_allowed.proofs.Framing.{IsElement}
-use Rattle.cg_clean.proofs.Lists.{append_none}
+use Rattle.cg_allowed.proofs.Lists.{append_none}
 use Rattle.cg_counts.specs.declared.counts.Counts.{Counts}
 use Rattle.cg_counts.specs.Counts.{counts_at, texts_of}
 use Rattle.cg_counts.specs.E308.{of_counts, of_own, of_texts, of_clauses, kept_texts, all_of, e308}
@@ -22,7 +22,7 @@ use Rattle.cg_model.specs.declared.machine.Machine.{Machine}
 use Rattle.cg_model.specs.faults.E308.{long_text, long_texts}
 use Rattle.cg_names.specs.declared.scope.Scope.{Scope}
 use Rattle.cg_references.specs.Clauses.{clauses_of}
-use Rattle.cg_repeated.specs.E305.{e305}
+use Rattle.cg_references.specs.E305.{e305}
 use Rattle.cg_said.specs.Saying.{only_text, fault_said}
 use Rattle.cg_lawful.proofs.Clear.{none_said, ClearForm, clear_form}
 use Rattle.cg_lawful.proofs.Forms.{GivenAt, given_in_order}

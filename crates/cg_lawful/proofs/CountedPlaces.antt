@@ -7,14 +7,14 @@ use Rattle.std.proofs.lemmas.Bool.{false≢true}
 use Rattle.std.proofs.lemmas.Bool.Decides.{nat_tests}
 use Rattle.cg_base.specs.Texts.{same_text}
 use Rattle.cg_allowed.proofs.Members.{IsMember}
-use Rattle.cg_clean.proofs.Clauses.{equal_texts, first_true}
+use Rattle.cg_allowed.proofs.Clauses.{equal_texts, first_true}
 use Rattle.cg_data.specs.Selecting.{Selection, takes_part_in, member, members}
 use Rattle.cg_element.specs.declared.element.Element.{Element}
 use Rattle.cg_element.specs.declared.kind.Namespace.{Namespace}
 use Rattle.cg_known.specs.declared.names.Standing.{Standing}
 use Rattle.cg_known.specs.Table.{Table}
 use Rattle.cg_names.specs.Names.{place_of}
-use Rattle.cg_repeated.specs.E305.{stands_here}
+use Rattle.cg_references.specs.E305.{stands_here}
 use Rattle.cg_lawful.proofs.Members.{AllHold, all_append}
 use Rattle.cg_lawful.proofs.CountedGroups.{all_so}
 

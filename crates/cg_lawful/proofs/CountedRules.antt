@@ -10,9 +10,9 @@ use Rattle.cg_allowed.proofs.Hardware.{hardware_given}
 use Rattle.cg_allowed.proofs.Members.{IsMember}
 use Rattle.cg_attrs.specs.Clauses.{Clause, standing, stands_as, clauses, clause_faults}
 use Rattle.cg_attrs.specs.Judging.{own_faults, form_faults}
-use Rattle.cg_clean.proofs.Clauses.{Stands, standing_is}
-use Rattle.cg_clean.proofs.Hardware.{hardware_by}
-use Rattle.cg_clean.proofs.Lists.{append_none, the_found}
+use Rattle.cg_allowed.proofs.Clauses.{Stands, standing_is}
+use Rattle.cg_allowed.proofs.FormHardware.{hardware_by}
+use Rattle.cg_allowed.proofs.Lists.{append_none, the_found}
 use Rattle.cg_counts.specs.E314.{of_number, e314}
 use Rattle.cg_data.specs.Selecting.{Selection, members}
 use Rattle.cg_data.specs.Hardware.{built_in}
@@ -40,7 +40,7 @@ use Rattle.cg_model.specs.faults.Finding.{at_place, where_so}
 use Rattle.cg_names.specs.Names.{place_of}
 use Rattle.cg_names.specs.declared.scope.Scope.{Scope}
 use Rattle.cg_references.specs.Clauses.{clauses_in}
-use Rattle.cg_repeated.specs.E305.{stands_here, own_repeated, constants_repeated, unit_repeated, repeated_in, repeated_at, repeated_behind}
+use Rattle.cg_references.specs.E305.{stands_here, own_repeated, constants_repeated, unit_repeated, repeated_in, repeated_at, repeated_behind}
 use Rattle.cg_said.specs.Saying.{fault_said}
 use Rattle.cg_selected.specs.Machines.{machine_of}
 use Rattle.cg_selected.specs.Rules.{ruled_hardware}

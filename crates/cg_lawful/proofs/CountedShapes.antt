@@ -11,9 +11,9 @@ use Rattle.cg_allowed.proofs.Members.{IsMember}
 use Rattle.cg_attrs.specs.declared.frame.ModelForm.{ModelForm}
 use Rattle.cg_attrs.specs.Clauses.{clauses, clause_faults, content_at}
 use Rattle.cg_attrs.specs.Judging.{own_faults, form_faults}
-use Rattle.cg_clean.proofs.Clauses.{Stands, StandsWith, looked_up}
-use Rattle.cg_clean.proofs.Insns.{insn_by as insn_by_form}
-use Rattle.cg_clean.proofs.Lists.{append_none, the_found}
+use Rattle.cg_allowed.proofs.Clauses.{Stands, StandsWith, looked_up}
+use Rattle.cg_allowed.proofs.Insns.{insn_by as insn_by_form}
+use Rattle.cg_allowed.proofs.Lists.{append_none, the_found}
 use Rattle.cg_counts.specs.E308.{in_clause, of_pieces, of_slots, of_bytes, of_cycles, of_time, of_macro_syntax}
 use Rattle.cg_choices.specs.declared.written.NamedPart.{NamedPart}
 use Rattle.cg_choices.specs.declared.written.NamedPart.TheVariants as named
@@ -45,7 +45,7 @@ use Rattle.cg_names.specs.declared.scope.Scope.{Scope}
 use Rattle.cg_references.specs.Clauses.{clauses_in}
 use Rattle.cg_selected.specs.Instructions.{part_of, part_in, slot_part, slot_names, behind_format, parts_of, pieces_of, kept_cycles, number_or_none, insn_by, insn_of, insns_of}
 use Rattle.cg_selected.specs.Macros.{macro_in, macro_slots, target_of, macro_by, macro_of, macros_of}
-use Rattle.cg_timing.specs.Timing.{cycles_for, cycles_of}
+use Rattle.cg_described.specs.Timing.{cycles_for, cycles_of}
 use Rattle.cg_lawful.proofs.Insns.{Wants, wants_of, IsWanted, wanted_there}
 use Rattle.cg_lawful.proofs.Members.{AllHold, IsIn, filtered_none}
 use Rattle.cg_lawful.proofs.Opened.{Opened, opened, of_kind}

@@ -22,9 +22,9 @@ use Rattle.cg_attrs.specs.declared.frame.Frame.{Frame}
 use Rattle.cg_attrs.specs.declared.frame.Frame.TheVariants as frame
 use Rattle.cg_attrs.specs.declared.table.Kind.{Kind}
 use Rattle.cg_attrs.specs.declared.table.Kind.TheVariants as kind
-use Rattle.cg_clean.proofs.Clauses.{Clean, clean, Stands, StandsWith, content_stands, looked_up, fits as is_of_its_kind, wanted_stands}
-use Rattle.cg_clean.proofs.Frames.{misfit_none, frame_by}
-use Rattle.cg_clean.proofs.Lists.{append_none, the_found}
+use Rattle.cg_allowed.proofs.Clauses.{Clean, clean, Stands, StandsWith, content_stands, looked_up, fits as is_of_its_kind, wanted_stands}
+use Rattle.cg_allowed.proofs.Frames.{misfit_none, frame_by}
+use Rattle.cg_allowed.proofs.Lists.{append_none, the_found}
 use Rattle.cg_choices.specs.declared.written.Written.{Written}
 use Rattle.cg_data.specs.Selecting.{Selection, takes_part_in, named}
 use Rattle.cg_data.specs.Selecting as selecting

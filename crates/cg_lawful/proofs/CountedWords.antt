@@ -9,8 +9,8 @@ use Rattle.cg_base.specs.Parts.{◌>>=◌, headed}
 use Rattle.cg_base.specs.Refusing.{least}
 use Rattle.cg_base.specs.Texts.{same_text}
 use Rattle.cg_attrs.specs.Clauses.{clauses, content_at}
-use Rattle.cg_clean.proofs.Clauses.{StandsWith, looked_up}
-use Rattle.cg_clean.proofs.Hardware.{hardware_by}
+use Rattle.cg_allowed.proofs.Clauses.{StandsWith, looked_up}
+use Rattle.cg_allowed.proofs.FormHardware.{hardware_by}
 use Rattle.cg_counts.specs.E308.{in_clause, of_clauses, gives_words}
 use Rattle.cg_choices.specs.declared.written.Written.{Written}
 use Rattle.cg_data.specs.Hardware.{words, words_in}

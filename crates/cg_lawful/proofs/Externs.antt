@@ -10,9 +10,9 @@ use Rattle.cg_base.specs.Parts.{◌>>=◌, Headed, headed, headed_in, only_symbo
 use Rattle.cg_base.specs.Texts.{same_text, passes}
 use Rattle.cg_attrs.specs.declared.frame.KeywordForm.{KeywordForm}
 use Rattle.cg_attrs.specs.Clauses.{Clause, content_at, clauses, standing, stands_as}
-use Rattle.cg_clean.proofs.Clauses.{Stands, StandsWith, looked_up, standing_is}
-use Rattle.cg_clean.proofs.Lists.{joined_none}
-use Rattle.cg_clean.proofs.Rules.{elements_items}
+use Rattle.cg_allowed.proofs.Clauses.{Stands, StandsWith, looked_up, standing_is}
+use Rattle.cg_allowed.proofs.Lists.{joined_none}
+use Rattle.cg_allowed.proofs.Rules.{elements_items}
 use Rattle.cg_hw.specs.Keywords.{has_words, is_keyword_in}
 use Rattle.cg_hw.specs.Hardware.{hardware_in}
 use Rattle.cg_element.specs.declared.element.Element.{Element}

@@ -10,11 +10,11 @@ use Rattle.cg_base.specs.Parts.{◌>>=◌, headed, elements_of, only}
 use Rattle.cg_attrs.specs.Clauses.{clauses}
 use Rattle.cg_attrs.specs.Contents.{only_elements}
 use Rattle.cg_attrs.specs.Lookups.{optional_form}
-use Rattle.cg_clean.specs.Forms.{IsClear, HasCodes}
-use Rattle.cg_clean.proofs.Clauses.{Stands, content_stands}
-use Rattle.cg_clean.proofs.Codes.{codes_law}
-use Rattle.cg_clean.proofs.Fields.{field_by}
-use Rattle.cg_clean.proofs.Rules.{elements_items}
+use Rattle.cg_allowed.specs.Forms.{IsClear, HasCodes}
+use Rattle.cg_allowed.proofs.Clauses.{Stands, content_stands}
+use Rattle.cg_allowed.proofs.Codes.{codes_law}
+use Rattle.cg_allowed.proofs.FormFields.{field_by}
+use Rattle.cg_allowed.proofs.Rules.{elements_items}
 use Rattle.cg_element.specs.declared.element.Element.{Element}
 use Rattle.cg_element.specs.declared.element.Element.TheVariants as element
 use Rattle.cg_element.specs.Elements.{kind_of}

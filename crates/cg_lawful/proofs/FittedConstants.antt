@@ -11,7 +11,7 @@ use Rattle.cg_base.specs.Modes.{bits_of}
 use Rattle.cg_base.specs.declared.mode.Mode.{Mode}
 use Rattle.cg_base.specs.Operations.{wrapped}
 use Rattle.cg_base.specs.Parts.{◌>>=◌}
-use Rattle.cg_clean.proofs.Lists.{append_none}
+use Rattle.cg_allowed.proofs.Lists.{append_none}
 use Rattle.cg_element.specs.declared.element.Element.{Element}
 use Rattle.cg_element.specs.declared.element.Element.TheVariants as element
 use Rattle.cg_element.specs.declared.kind.Namespace.TheVariants.{Fields}

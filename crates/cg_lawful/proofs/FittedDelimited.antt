@@ -1,7 +1,7 @@
 -- The slots of syntaxes: what is said of no form is said of no instruction and of no macro instruction.
 use Rattle.std.proofs.Common.{◌≡◌, ◌∙◌, ℕ, suc, ◌+◌, true, List, [], ◌∷◌, ◌++◌, map, refl, sym, ap}
 use Rattle.std.specs.List.{filter_map, flat_map, cons_option}
-use Rattle.cg_clean.proofs.Lists.{append_none}
+use Rattle.cg_allowed.proofs.Lists.{append_none}
 use Rattle.cg_element.specs.declared.element.Element.{Element}
 use Rattle.cg_element.specs.declared.element.Element.TheVariants as element
 use Rattle.cg_insn.specs.declared.form.InsnForm.TheVariants as insn

@@ -3,8 +3,8 @@ use Rattle.std.proofs.Common.{◌≡◌, ◌∙◌, ℕ, zero, suc, Bool, true, 
 use Rattle.std.specs.Option.{option_map}
 use Rattle.std.proofs.lemmas.Bool.{false≢true}
 use Rattle.cg_base.specs.Texts.{same_text, is_among}
-use Rattle.cg_clean.proofs.Clauses.{equal_texts}
-use Rattle.cg_clean.proofs.Lists.{the_found}
+use Rattle.cg_allowed.proofs.Clauses.{equal_texts}
+use Rattle.cg_allowed.proofs.Lists.{the_found}
 use Rattle.cg_described.proofs.Among.{among_more, after_one, none_after}
 use Rattle.cg_expanded.specs.Choices.{distinct_behind}
 use Rattle.cg_names.specs.Names.{place_of}

@@ -5,8 +5,8 @@ use Rattle.std.specs.Option.{unwrap_or}
 use Rattle.std.proofs.lemmas.Bool.{false≢true}
 use Rattle.std.proofs.lemmas.Bool.Decides.{nat_tests}
 use Rattle.cg_base.specs.Texts.{same_text, is_among}
-use Rattle.cg_clean.proofs.Clauses.{equal_texts}
-use Rattle.cg_clean.proofs.Lists.{append_none, the_found}
+use Rattle.cg_allowed.proofs.Clauses.{equal_texts}
+use Rattle.cg_allowed.proofs.Lists.{append_none, the_found}
 use Rattle.cg_insn.specs.declared.syntax.NamedPiece.{NamedPiece}
 use Rattle.cg_insn.specs.declared.syntax.NamedPiece.TheVariants as named
 use Rattle.cg_model.specs.declared.insn.Given.{Given}

@@ -5,8 +5,8 @@ use Rattle.std.specs.List.{filter_map, flat_map, cons_option}
 use Rattle.std.proofs.lemmas.Bool.{false≢true}
 use Rattle.cg_attrs.specs.Clauses.{Clause, clauses, standing, stands_as}
 use Rattle.cg_base.specs.Texts.{same_text, is_among}
-use Rattle.cg_clean.proofs.Clauses.{Stands, equal_texts, first_true, not_true, standing_is}
-use Rattle.cg_clean.proofs.Lists.{append_none, joined_none}
+use Rattle.cg_allowed.proofs.Clauses.{Stands, equal_texts, first_true, not_true, standing_is}
+use Rattle.cg_allowed.proofs.Lists.{append_none, joined_none}
 use Rattle.cg_element.specs.declared.element.Element.{Element}
 use Rattle.cg_element.specs.declared.element.Element.TheVariants as element
 use Rattle.cg_element.specs.declared.kind.Kind.TheVariants as kinds

@@ -5,7 +5,7 @@ use Rattle.std.specs.Option.{option_map}
 use Rattle.std.proofs.lemmas.Bool.{false≢true}
 use Rattle.cg_allowed.proofs.Framing.{IsElement}
 use Rattle.cg_allowed.proofs.Members.{IsMember}
-use Rattle.cg_clean.proofs.Lists.{the_found}
+use Rattle.cg_allowed.proofs.Lists.{the_found}
 use Rattle.cg_element.specs.declared.element.Element.{Element}
 use Rattle.cg_insn.specs.declared.form.InstructionForm.{InstructionForm}
 use Rattle.cg_model.specs.declared.insn.Insn.{Insn}

@@ -4,7 +4,7 @@ use Rattle.std.specs.List.{filter_map}
 use Rattle.std.specs.Option.{option_map}
 use Rattle.cg_base.specs.declared.form.Top.{Top}
 use Rattle.cg_allowed.proofs.Members.{IsMember}
-use Rattle.cg_clean.proofs.Lists.{append_none}
+use Rattle.cg_allowed.proofs.Lists.{append_none}
 use Rattle.cg_element.specs.declared.element.Element.{Element}
 use Rattle.cg_element.specs.Reading.{element_at, first_refusal}
 use Rattle.cg_faults.specs.Least.{by_elements}

@@ -9,9 +9,9 @@ use Rattle.cg_base.specs.Refusing.{least}
 use Rattle.cg_base.specs.Texts.{same_text, passes}
 use Rattle.cg_attrs.specs.Clauses.{Clause, Texts, Role, Row, Wanted, WantedBeside, Optional, Repeated, Plain, LeftOut, SpellingOf, row_named, counts_absent, name_by, name_in, counts_as, is_counted, stands_for, is_wanted, absent_at, standing_as, standing, clause_faults}
 use Rattle.cg_attrs.specs.Judging.{own_faults, form_faults}
-use Rattle.cg_clean.proofs.Clauses.{Clean, clean, Stands, equal_texts, first_true, second_true, not_true}
-use Rattle.cg_clean.proofs.Insns.{insn_by}
-use Rattle.cg_clean.proofs.Lists.{given_none, found_passes, found_of_all, Found, any_found}
+use Rattle.cg_allowed.proofs.Clauses.{Clean, clean, Stands, equal_texts, first_true, second_true, not_true}
+use Rattle.cg_allowed.proofs.Insns.{insn_by}
+use Rattle.cg_allowed.proofs.Lists.{given_none, found_passes, found_of_all, Found, any_found}
 use Rattle.cg_element.specs.declared.element.Element.TheVariants as element
 use Rattle.cg_element.specs.Reading.{reader_for, element_faults}
 use Rattle.cg_insn.specs.Contents.{wrong, left_out}

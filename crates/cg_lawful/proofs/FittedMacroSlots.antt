@@ -4,7 +4,7 @@ use Rattle.std.specs.List.{filter_map, cons_option}
 use Rattle.std.specs.Option.{option_map}
 use Rattle.std.proofs.lemmas.Bool.{false≢true}
 use Rattle.cg_base.specs.Texts.{same_text, is_among}
-use Rattle.cg_clean.proofs.Clauses.{equal_texts}
+use Rattle.cg_allowed.proofs.Clauses.{equal_texts}
 use Rattle.cg_insn.specs.declared.form.MacroForm.{MacroForm}
 use Rattle.cg_names.specs.Names.{place_of}
 use Rattle.cg_data.specs.Numbering.{short, numbered}

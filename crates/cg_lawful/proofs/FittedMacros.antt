@@ -6,8 +6,8 @@ use Rattle.std.specs.Option.{option_map}
 use Rattle.std.proofs.lemmas.Bool.{false≢true}
 use Rattle.cg_attrs.specs.Clauses.{Clause, clauses, standing, stands_as}
 use Rattle.cg_base.specs.Texts.{is_among}
-use Rattle.cg_clean.proofs.Clauses.{standing_is}
-use Rattle.cg_clean.proofs.Lists.{append_none, joined_none}
+use Rattle.cg_allowed.proofs.Clauses.{standing_is}
+use Rattle.cg_allowed.proofs.Lists.{append_none, joined_none}
 use Rattle.cg_element.specs.declared.element.Element.TheVariants as element
 use Rattle.cg_element.specs.declared.kind.Kind.TheVariants as kinds
 use Rattle.cg_insn.specs.declared.form.InsnForm.TheVariants as insn

@@ -4,8 +4,8 @@ use Rattle.std.specs.Cmp.Lexicographic.{bytes_decides}
 use Rattle.std.specs.Option.{option_map}
 use Rattle.std.proofs.lemmas.Bool.{false≢true}
 use Rattle.cg_base.specs.Texts.{same_text, is_among}
-use Rattle.cg_clean.proofs.Clauses.{equal_texts}
-use Rattle.cg_clean.proofs.Lists.{the_found}
+use Rattle.cg_allowed.proofs.Clauses.{equal_texts}
+use Rattle.cg_allowed.proofs.Lists.{the_found}
 use Rattle.cg_names.specs.Names.{place_of}
 use Rattle.cg_data.specs.Numbering.{short, numbered}
 use Rattle.cg_selected.specs.Instructions.{slot_number}

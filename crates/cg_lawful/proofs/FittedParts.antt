@@ -6,7 +6,7 @@ use Rattle.cg_base.specs.declared.form.Form.{Form, out-Form}
 use Rattle.cg_base.specs.declared.form.Form.TheOpen.{Number, Symbol, Str, Flag, Items}
 use Rattle.cg_base.specs.Parts.{Layer, headed_in, symbol_of, number_of, elements_of}
 use Rattle.cg_base.specs.Texts.{same_text}
-use Rattle.cg_clean.proofs.Lists.{the_found}
+use Rattle.cg_allowed.proofs.Lists.{the_found}
 use Rattle.cg_element.specs.declared.element.Element.{Element}
 use Rattle.cg_operand.specs.declared.form.DerivedOperandForm.{DerivedOperandForm}
 use Rattle.cg_operand.specs.declared.form.AnyofOperandForm.{AnyofOperandForm}

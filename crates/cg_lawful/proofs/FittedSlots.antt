@@ -5,7 +5,7 @@ use Rattle.std.specs.Option.{option_map}
 use Rattle.std.proofs.lemmas.Bool.{false≢true}
 use Rattle.std.proofs.lemmas.Bool.Decides.{nat_tests}
 use Rattle.cg_base.specs.Texts.{same_text, is_among}
-use Rattle.cg_clean.proofs.Lists.{append_none, the_found}
+use Rattle.cg_allowed.proofs.Lists.{append_none, the_found}
 use Rattle.cg_insn.specs.declared.syntax.NamedPiece.{NamedPiece}
 use Rattle.cg_insn.specs.declared.syntax.NamedPiece.TheVariants as named
 use Rattle.cg_model.specs.declared.insn.Piece.{Piece}

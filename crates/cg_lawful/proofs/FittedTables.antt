@@ -4,8 +4,8 @@ use Rattle.std.specs.List.{filter_map, cons_option}
 use Rattle.std.specs.Option.{option_map, option_or}
 use Rattle.std.proofs.lemmas.Bool.{false≢true}
 use Rattle.cg_base.specs.Texts.{same_text}
-use Rattle.cg_clean.proofs.Clauses.{first_true}
-use Rattle.cg_clean.proofs.Lists.{the_found}
+use Rattle.cg_allowed.proofs.Clauses.{first_true}
+use Rattle.cg_allowed.proofs.Lists.{the_found}
 use Rattle.cg_element.specs.declared.element.Element.{Element}
 use Rattle.cg_element.specs.declared.kind.Kind.{Kind}
 use Rattle.cg_element.specs.declared.kind.Namespace.{Namespace}

@@ -7,7 +7,7 @@ use Rattle.cg_allowed.proofs.Framing.{IsElement}
 use Rattle.cg_allowed.proofs.Members.{IsMember}
 use Rattle.cg_attrs.specs.declared.frame.Frame.TheVariants as frame
 use Rattle.cg_attrs.specs.declared.frame.IsaForm.{IsaForm}
-use Rattle.cg_clean.proofs.Lists.{append_none, the_found}
+use Rattle.cg_allowed.proofs.Lists.{append_none, the_found}
 use Rattle.cg_element.specs.declared.element.Element.{Element}
 use Rattle.cg_element.specs.declared.element.Element.TheVariants as element
 use Rattle.cg_element.specs.Reading.{element_at, first_refusal}

@@ -9,7 +9,7 @@ use Rattle.cg_model.specs.declared.rtl.Rtl.{Rtl}
 use Rattle.cg_model.specs.faults.Judging.{Judged, other_modes, verdict_faults, mode_faults}
 use Rattle.cg_check.specs.declared.moded.Wanted.{Wanted}
 use Rattle.cg_check.specs.Wanting.{judged}
-use Rattle.cg_clean.proofs.Lists.{append_none}
+use Rattle.cg_allowed.proofs.Lists.{append_none}
 use Rattle.cg_known.specs.Table.{Table}
 use Rattle.cg_names.specs.Names.{rtl_of}
 use Rattle.cg_names.specs.declared.scope.Scope.{Scope}

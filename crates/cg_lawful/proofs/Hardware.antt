@@ -10,10 +10,10 @@ use Rattle.cg_base.specs.Parts.{◌>>=◌, headed, elements_of}
 use Rattle.cg_base.specs.Refusing.{least}
 use Rattle.cg_attrs.specs.Clauses.{clauses}
 use Rattle.cg_attrs.specs.Lookups.{optional_form}
-use Rattle.cg_clean.specs.Forms.{IsClear, HasRules}
-use Rattle.cg_clean.proofs.Clauses.{Stands, content_stands}
-use Rattle.cg_clean.proofs.Hardware.{hardware_by, hardware_law}
-use Rattle.cg_clean.proofs.Rules.{elements_items}
+use Rattle.cg_allowed.specs.Forms.{IsClear, HasRules}
+use Rattle.cg_allowed.proofs.Clauses.{Stands, content_stands}
+use Rattle.cg_allowed.proofs.FormHardware.{hardware_by, hardware_law}
+use Rattle.cg_allowed.proofs.Rules.{elements_items}
 use Rattle.cg_element.specs.declared.element.Element.{Element}
 use Rattle.cg_element.specs.declared.element.Element.TheVariants as element
 use Rattle.cg_element.specs.declared.kind.Kind.TheVariants as kinds

@@ -5,8 +5,8 @@ use Rattle.std.specs.List.{list_all, filter_map, cons_option, flat_map}
 use Rattle.std.specs.Option.{option_map}
 use Rattle.std.proofs.lemmas.Bool.Decides.{nat_tests}
 use Rattle.cg_attrs.specs.Clauses.{Clause, clauses, standing, stands_as}
-use Rattle.cg_clean.proofs.Clauses.{Stands, standing_is}
-use Rattle.cg_clean.proofs.Lists.{append_none, joined_none}
+use Rattle.cg_allowed.proofs.Clauses.{Stands, standing_is}
+use Rattle.cg_allowed.proofs.Lists.{append_none, joined_none}
 use Rattle.cg_element.specs.declared.element.Element.{Element}
 use Rattle.cg_element.specs.declared.element.Element.TheVariants as element
 use Rattle.cg_element.specs.declared.kind.Kind.TheVariants as kinds

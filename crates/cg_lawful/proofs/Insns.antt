@@ -9,8 +9,8 @@ use Rattle.cg_base.specs.Refusing.{least}
 use Rattle.cg_base.specs.Texts.{passes}
 use Rattle.cg_attrs.specs.Clauses.{Texts, Role, Row, Wanted, WantedBeside, Optional, Repeated, Plain, LeftOut, SpellingOf, row_named, clause_faults}
 use Rattle.cg_attrs.specs.Judging.{own_faults, form_faults}
-use Rattle.cg_clean.proofs.Clauses.{clean, Stands, is_apart, wanted_stands_apart}
-use Rattle.cg_clean.proofs.Insns.{insn_by}
+use Rattle.cg_allowed.proofs.Clauses.{clean, Stands, is_apart, wanted_stands_apart}
+use Rattle.cg_allowed.proofs.Insns.{insn_by}
 use Rattle.cg_element.specs.declared.element.Element.TheVariants as element
 use Rattle.cg_element.specs.Reading.{reader_for, element_faults}
 use Rattle.cg_insn.specs.Contents.{wrong, left_out}

@@ -1,7 +1,7 @@
 -- A machine has an element for each name of its description's scope, whatever the rule.
 use Rattle.std.proofs.Common.{◌≡◌, Option}
 use Rattle.cg_base.specs.declared.mode.Mode.{Mode}
-use Rattle.cg_covered.specs.Numbered.{HasEach}
+use Rattle.cg_shaped.specs.Numbered.{HasEach}
 use Rattle.cg_described.specs.Described.{scope_in}
 use Rattle.cg_model.specs.declared.machine.Machine.{Machine}
 use Rattle.cg_names.specs.declared.scope.Rule.{Rule}

@@ -7,8 +7,8 @@ use Rattle.cg_base.specs.declared.mode.Mode.{Mode}
 use Rattle.cg_base.specs.Parts.{headed}
 use Rattle.cg_base.specs.Refusing.{least}
 use Rattle.cg_attrs.specs.Clauses.{clauses}
-use Rattle.cg_clean.proofs.Fields.{field_by}
-use Rattle.cg_covered.specs.Numbered.{HasEach}
+use Rattle.cg_allowed.proofs.FormFields.{field_by}
+use Rattle.cg_shaped.specs.Numbered.{HasEach}
 use Rattle.cg_element.specs.declared.element.Element.{Element}
 use Rattle.cg_element.specs.declared.element.Element.TheVariants as element
 use Rattle.cg_element.specs.declared.kind.Kind.TheVariants as kinds

@@ -10,12 +10,12 @@ use Rattle.cg_base.specs.Parts.{◌>>=◌, headed}
 use Rattle.cg_base.specs.Refusing.{least}
 use Rattle.cg_attrs.specs.Clauses.{Clause, clauses}
 use Rattle.cg_attrs.specs.Lookups.{optional_form}
-use Rattle.cg_clean.specs.Forms.{IsClear, HasRules}
-use Rattle.cg_clean.proofs.Clauses.{Stands}
-use Rattle.cg_clean.proofs.Hardware.{hardware_by, hardware_law}
-use Rattle.cg_clean.proofs.Lists.{append_none}
-use Rattle.cg_covered.specs.Covered.{AreSilent}
-use Rattle.cg_covered.specs.Numbered.{HasEach, no_text_at}
+use Rattle.cg_allowed.specs.Forms.{IsClear, HasRules}
+use Rattle.cg_allowed.proofs.Clauses.{Stands}
+use Rattle.cg_allowed.proofs.FormHardware.{hardware_by, hardware_law}
+use Rattle.cg_allowed.proofs.Lists.{append_none}
+use Rattle.cg_shaped.specs.Covered.{AreSilent}
+use Rattle.cg_shaped.specs.Numbered.{HasEach, no_text_at}
 use Rattle.cg_described.specs.Described.{Described, scope_in}
 use Rattle.cg_described.specs.Seen.{forms_of}
 use Rattle.cg_described.specs.Texts.{texts_in, texts_of_clause, of_form, texts_by_kind, all_texts}

@@ -6,10 +6,10 @@ use Rattle.cg_base.specs.declared.form.Form.{Form}
 use Rattle.cg_base.specs.declared.form.Top.{Top}
 use Rattle.cg_base.specs.Texts.{is_among}
 use Rattle.cg_choices.specs.declared.written.Written.{Written}
-use Rattle.cg_clean.proofs.Lists.{append_none, the_found}
+use Rattle.cg_allowed.proofs.Lists.{append_none, the_found}
 use Rattle.cg_counts.specs.Counts.{counts_at}
-use Rattle.cg_covered.specs.Covered.{IsSilent, AreSilent}
-use Rattle.cg_covered.specs.Numbered.{no_text_at}
+use Rattle.cg_shaped.specs.Covered.{IsSilent, AreSilent}
+use Rattle.cg_shaped.specs.Numbered.{no_text_at}
 use Rattle.cg_data.specs.Selecting.{Selection, takes_part_in}
 use Rattle.cg_described.specs.Described.{Described}
 use Rattle.cg_described.specs.Seen.{forms_of}

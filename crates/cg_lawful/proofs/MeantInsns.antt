@@ -10,14 +10,14 @@ use Rattle.cg_base.specs.declared.form.Top.{Top}
 use Rattle.cg_base.specs.Texts.{passes}
 use Rattle.cg_attrs.specs.Clauses.{content_at, clauses}
 use Rattle.cg_check.specs.Wanting.{judged}
-use Rattle.cg_clean.proofs.Clauses.{Stands, looked_up}
-use Rattle.cg_clean.proofs.Lists.{append_none}
-use Rattle.cg_covered.specs.Covered.{AreSilent}
-use Rattle.cg_covered.specs.Numbered.{HasEach, no_text_at}
-use Rattle.cg_covered.specs.Outside.{Fits}
-use Rattle.cg_covered.proofs.Covered.{AllQuiet, quiet_node}
-use Rattle.cg_covered.proofs.Numbered.{AllNamed, known_node}
-use Rattle.cg_covered.proofs.Outside.{plain, inside_by}
+use Rattle.cg_allowed.proofs.Clauses.{Stands, looked_up}
+use Rattle.cg_allowed.proofs.Lists.{append_none}
+use Rattle.cg_shaped.specs.Covered.{AreSilent}
+use Rattle.cg_shaped.specs.Numbered.{HasEach, no_text_at}
+use Rattle.cg_shaped.specs.Outside.{Fits}
+use Rattle.cg_shaped.proofs.Covered.{AllQuiet, quiet_node}
+use Rattle.cg_shaped.proofs.Numbered.{AllNamed, known_node}
+use Rattle.cg_shaped.proofs.Outside.{plain, inside_by}
 use Rattle.cg_element.specs.declared.element.Element.{Element}
 use Rattle.cg_element.specs.declared.element.Element.TheVariants as element
 use Rattle.cg_element.specs.declared.kind.Kind.TheVariants as kinds

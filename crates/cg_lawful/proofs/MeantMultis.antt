@@ -11,16 +11,16 @@ use Rattle.cg_base.specs.Refusing.{first, least}
 use Rattle.cg_base.specs.Texts.{same_text}
 use Rattle.cg_attrs.specs.Clauses.{clauses}
 use Rattle.cg_check.specs.Wanting.{judged}
-use Rattle.cg_clean.specs.Forms.{HasFields, is_set_in}
-use Rattle.cg_clean.proofs.Clauses.{equal_texts}
-use Rattle.cg_clean.proofs.Codes.{multis_law}
-use Rattle.cg_clean.proofs.Fields.{field_by}
-use Rattle.cg_clean.proofs.Lists.{append_none, the_found}
-use Rattle.cg_covered.specs.Numbered.{HasEach}
-use Rattle.cg_covered.specs.Outside.{Fits}
-use Rattle.cg_covered.proofs.Covered.{quiet_nothing}
-use Rattle.cg_covered.proofs.Numbered.{nothing_named}
-use Rattle.cg_covered.proofs.Outside.{plain, inside_by}
+use Rattle.cg_allowed.specs.Forms.{HasFields, is_set_in}
+use Rattle.cg_allowed.proofs.Clauses.{equal_texts}
+use Rattle.cg_allowed.proofs.Codes.{multis_law}
+use Rattle.cg_allowed.proofs.FormFields.{field_by}
+use Rattle.cg_allowed.proofs.Lists.{append_none, the_found}
+use Rattle.cg_shaped.specs.Numbered.{HasEach}
+use Rattle.cg_shaped.specs.Outside.{Fits}
+use Rattle.cg_shaped.proofs.Covered.{quiet_nothing}
+use Rattle.cg_shaped.proofs.Numbered.{nothing_named}
+use Rattle.cg_shaped.proofs.Outside.{plain, inside_by}
 use Rattle.cg_element.specs.declared.element.Element.{Element}
 use Rattle.cg_element.specs.declared.element.Element.TheVariants as element
 use Rattle.cg_element.specs.declared.kind.Kind.TheVariants as kinds

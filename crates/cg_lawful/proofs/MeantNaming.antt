@@ -9,11 +9,11 @@ use Rattle.cg_base.specs.Parts.{◌>>=◌}
 use Rattle.cg_attrs.specs.Clauses.{content_at}
 use Rattle.cg_attrs.specs.Lookups.{optional_form}
 use Rattle.cg_check.specs.Wanting.{judged}
-use Rattle.cg_clean.proofs.Clauses.{Stands, StandsWith, content_stands, looked_up}
-use Rattle.cg_covered.specs.Covered.{AreSilent}
-use Rattle.cg_covered.specs.Numbered.{HasEach, no_text_at}
-use Rattle.cg_covered.specs.Outside.{Fits}
-use Rattle.cg_covered.proofs.Outside.{inside_by}
+use Rattle.cg_allowed.proofs.Clauses.{Stands, StandsWith, content_stands, looked_up}
+use Rattle.cg_shaped.specs.Covered.{AreSilent}
+use Rattle.cg_shaped.specs.Numbered.{HasEach, no_text_at}
+use Rattle.cg_shaped.specs.Outside.{Fits}
+use Rattle.cg_shaped.proofs.Outside.{inside_by}
 use Rattle.cg_known.specs.Table.{Table}
 use Rattle.cg_model.specs.declared.fault.Purpose.{Purpose}
 use Rattle.cg_model.specs.declared.machine.Machine.{Machine}

@@ -6,7 +6,7 @@ use Rattle.std.proofs.lemmas.Bool.{false≢true}
 use Rattle.cg_base.specs.declared.form.Form.{Form}
 use Rattle.cg_base.specs.declared.mode.Mode.{Mode}
 use Rattle.cg_base.specs.Refusing.{first}
-use Rattle.cg_clean.proofs.Lists.{append_none}
+use Rattle.cg_allowed.proofs.Lists.{append_none}
 use Rattle.cg_model.specs.declared.fault.MachineFault.{MachineFault}
 use Rattle.cg_model.specs.declared.fault.Purpose.{Purpose}
 use Rattle.cg_model.specs.declared.fault.Purpose.TheVariants as purpose
@@ -23,10 +23,10 @@ use Rattle.cg_model.specs.Pure.{is_pure_op}
 use Rattle.cg_names.specs.Names.{rtl_of}
 use Rattle.cg_names.specs.declared.scope.Scope.{Scope}
 use Rattle.cg_known.specs.Table.{Table}
-use Rattle.cg_covered.specs.Covered.{IsSilent, AreSilent, IsPlain}
-use Rattle.cg_covered.specs.Numbered.{HasEach, no_text_at}
-use Rattle.cg_covered.proofs.Covered.{covered_law}
-use Rattle.cg_covered.proofs.Numbered.{numbered_law}
+use Rattle.cg_shaped.specs.Covered.{IsSilent, AreSilent, IsPlain}
+use Rattle.cg_shaped.specs.Numbered.{HasEach, no_text_at}
+use Rattle.cg_shaped.proofs.Covered.{covered_law}
+use Rattle.cg_shaped.proofs.Numbered.{numbered_law}
 use Rattle.cg_said.specs.declared.saying.Saying.{Saying}
 use Rattle.cg_said.specs.declared.saying.Placed.{Placed}
 use Rattle.cg_said.specs.Saying.{fault_said, only_text, placed}

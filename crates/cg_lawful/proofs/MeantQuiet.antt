@@ -6,8 +6,8 @@ use Rattle.cg_base.specs.declared.form.Form.{Form}
 use Rattle.cg_base.specs.declared.form.Top.{Top}
 use Rattle.cg_base.specs.Refusing.{first}
 use Rattle.cg_attrs.specs.Clauses.{Clause, clauses}
-use Rattle.cg_clean.proofs.Clauses.{Stands}
-use Rattle.cg_clean.proofs.Lists.{append_none}
+use Rattle.cg_allowed.proofs.Clauses.{Stands}
+use Rattle.cg_allowed.proofs.Lists.{append_none}
 use Rattle.cg_element.specs.declared.element.Element.{Element}
 use Rattle.cg_element.specs.Elements.{kind_of}
 use Rattle.cg_element.specs.Reading.{element_at, first_refusal}

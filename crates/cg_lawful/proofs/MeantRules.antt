@@ -10,11 +10,11 @@ use Rattle.cg_attrs.specs.Clauses.{content_at}
 use Rattle.cg_attrs.specs.Lookups.{optional_form}
 use Rattle.cg_check.specs.declared.moded.Wanted.{Wanted}
 use Rattle.cg_check.specs.Wanting.{judged}
-use Rattle.cg_clean.proofs.Clauses.{Stands, StandsWith, content_stands, looked_up}
-use Rattle.cg_clean.proofs.Lists.{append_none}
-use Rattle.cg_covered.specs.Numbered.{HasEach}
-use Rattle.cg_covered.specs.Outside.{Fits}
-use Rattle.cg_covered.proofs.Outside.{inside_by}
+use Rattle.cg_allowed.proofs.Clauses.{Stands, StandsWith, content_stands, looked_up}
+use Rattle.cg_allowed.proofs.Lists.{append_none}
+use Rattle.cg_shaped.specs.Numbered.{HasEach}
+use Rattle.cg_shaped.specs.Outside.{Fits}
+use Rattle.cg_shaped.proofs.Outside.{inside_by}
 use Rattle.cg_known.specs.Table.{Table}
 use Rattle.cg_model.specs.declared.fault.Purpose.{Purpose}
 use Rattle.cg_model.specs.declared.machine.Machine.{Machine}

@@ -39,8 +39,8 @@ use Rattle.cg_uses.specs.Uses.{here, inside, at as placed_at, each_at, use_of, n
 use Rattle.cg_uses.specs.declared.uses.PlacedUse.{PlacedUse}
 use Rattle.cg_uses.specs.declared.uses.Use.{Use}
 use Rattle.cg_uses.specs.declared.uses.Use.TheVariants as stands
-use Rattle.cg_covered.specs.Covered.{IsSilent, AreSilent}
-use Rattle.cg_covered.specs.Numbered.{no_text_at}
+use Rattle.cg_shaped.specs.Covered.{IsSilent, AreSilent}
+use Rattle.cg_shaped.specs.Numbered.{no_text_at}
 use Rattle.cg_described.specs.Texts.{error_text, text_of_error, texts_by, texts_to, texts_in}
 
 -- depths

@@ -6,9 +6,9 @@ use Rattle.cg_allowed.proofs.Framing.{IsElement}
 use Rattle.cg_allowed.proofs.Hardware.{hardware_given}
 use Rattle.cg_allowed.proofs.Kept.{field_given, multi_given}
 use Rattle.cg_allowed.proofs.Members.{IsMember}
-use Rattle.cg_covered.specs.Numbered.{HasEach}
-use Rattle.cg_covered.proofs.Covered.{length_mapped}
-use Rattle.cg_covered.proofs.Numbered.{length_both}
+use Rattle.cg_shaped.specs.Numbered.{HasEach}
+use Rattle.cg_shaped.proofs.Covered.{length_mapped}
+use Rattle.cg_shaped.proofs.Numbered.{length_both}
 use Rattle.cg_element.specs.declared.element.Element.{Element}
 use Rattle.cg_element.specs.declared.element.Element.TheVariants as element
 use Rattle.cg_element.specs.Reading.{element_at, first_refusal}

@@ -1,7 +1,7 @@
 -- What holds of all of a list holds of each, and what is given of none is given of no one.
 use Rattle.std.proofs.Common.{◌≡◌, ◌∙◌, ℕ, zero, suc, Bool, true, false, if◌then◌else◌, List, [], ◌∷◌, ◌++◌, map, filter, Some, slice_get, refl, sym, ap, subst}
 use Rattle.std.specs.List.{flat_map}
-use Rattle.cg_clean.proofs.Lists.{append_none, the_found}
+use Rattle.cg_allowed.proofs.Lists.{append_none, the_found}
 
 abbrev pub AllHold : {A : Type 0} → (A → Type 0) → List A → Type 0
 AllHold P [] = Unit {0}

@@ -10,12 +10,12 @@ use Rattle.cg_base.specs.Refusing.{first, least}
 use Rattle.cg_attrs.specs.Clauses.{content_at, clauses}
 use Rattle.cg_attrs.specs.Lookups.{wanted_form}
 use Rattle.cg_check.specs.declared.moded.Wanted.{Wanted}
-use Rattle.cg_clean.specs.Forms.{HasSets, HasFields}
-use Rattle.cg_clean.proofs.Clauses.{Stands, looked_up}
-use Rattle.cg_clean.proofs.Codes.{multis_law}
-use Rattle.cg_clean.proofs.Fields.{field_by}
-use Rattle.cg_clean.proofs.Lists.{append_none}
-use Rattle.cg_clean.proofs.Rules.{elements_items, elements_there}
+use Rattle.cg_allowed.specs.Forms.{HasSets, HasFields}
+use Rattle.cg_allowed.proofs.Clauses.{Stands, looked_up}
+use Rattle.cg_allowed.proofs.Codes.{multis_law}
+use Rattle.cg_allowed.proofs.FormFields.{field_by}
+use Rattle.cg_allowed.proofs.Lists.{append_none}
+use Rattle.cg_allowed.proofs.Rules.{elements_items, elements_there}
 use Rattle.cg_element.specs.declared.element.Element.{Element}
 use Rattle.cg_element.specs.declared.element.Element.TheVariants as element
 use Rattle.cg_element.specs.declared.kind.Kind.TheVariants as kinds

@@ -5,9 +5,9 @@ use Rattle.std.specs.Option.{option_map}
 use Rattle.std.proofs.lemmas.Bool.{false≢true}
 use Rattle.cg_base.specs.declared.form.Form.{Form}
 use Rattle.cg_base.specs.Texts.{same_text, passes}
-use Rattle.cg_clean.specs.Forms.{IsClear, AreClear, is_set_in}
-use Rattle.cg_clean.proofs.Clauses.{equal_texts, first_true, second_true}
-use Rattle.cg_clean.proofs.Lists.{append_none, the_found}
+use Rattle.cg_allowed.specs.Forms.{IsClear, AreClear, is_set_in}
+use Rattle.cg_allowed.proofs.Clauses.{equal_texts, first_true, second_true}
+use Rattle.cg_allowed.proofs.Lists.{append_none, the_found}
 use Rattle.cg_ifield.specs.Sets.{set_of, sets_field}
 use Rattle.cg_known.specs.Table.{Table}
 use Rattle.cg_model.specs.Formed.{is_formed}

@@ -4,7 +4,7 @@ use Rattle.std.specs.Option.{option_map, unwrap_or}
 use Rattle.std.proofs.lemmas.Bool.{false≢true}
 use Rattle.std.proofs.lemmas.Bool.Decides.{nat_tests}
 use Rattle.cg_base.specs.Texts.{same_text, is_among}
-use Rattle.cg_clean.proofs.Lists.{the_found}
+use Rattle.cg_allowed.proofs.Lists.{the_found}
 use Rattle.cg_data.specs.Numbering.{short, numbered}
 use Rattle.cg_model.specs.faults.E306.{beyond, beyond_from}
 use Rattle.cg_model.specs.faults.Finding.{at_place}

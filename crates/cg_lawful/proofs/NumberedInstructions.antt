@@ -8,7 +8,7 @@ use Rattle.cg_choices.specs.declared.written.NamedPart.{NamedPart}
 use Rattle.cg_choices.specs.declared.written.NamedPart.TheVariants as part
 use Rattle.cg_choices.specs.declared.written.Written.{Written}
 use Rattle.cg_choices.specs.declared.written.WrittenPart.{WrittenPart}
-use Rattle.cg_clean.proofs.Lists.{the_found}
+use Rattle.cg_allowed.proofs.Lists.{the_found}
 use Rattle.cg_data.specs.Selecting.{Selection}
 use Rattle.cg_data.specs.Numbering.{numbered, field_names, operand_names}
 use Rattle.cg_described.specs.Bare.{is_bare, bare_in, bare_names}

@@ -9,7 +9,7 @@ use Rattle.cg_base.specs.declared.form.Top.{Top}
 use Rattle.cg_base.specs.Parts.{Layer}
 use Rattle.cg_base.specs.Texts.{same_text}
 use Rattle.cg_choices.specs.declared.written.Written.{Written}
-use Rattle.cg_clean.proofs.Lists.{the_found}
+use Rattle.cg_allowed.proofs.Lists.{the_found}
 use Rattle.cg_data.specs.Selecting.{Selection, members}
 use Rattle.cg_data.specs.Numbering.{short}
 use Rattle.cg_described.specs.Described.{Described, described, written_in}

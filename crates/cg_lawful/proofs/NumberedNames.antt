@@ -7,7 +7,7 @@ use Rattle.std.proofs.lemmas.Bool.{false≢true}
 use Rattle.cg_base.specs.Texts.{same_text, is_among}
 use Rattle.cg_attrs.specs.declared.frame.Frame.{Frame}
 use Rattle.cg_attrs.specs.declared.frame.Frame.TheVariants as frame
-use Rattle.cg_clean.proofs.Lists.{the_found}
+use Rattle.cg_allowed.proofs.Lists.{the_found}
 use Rattle.cg_data.specs.Selecting.{Selection, takes_part_in, member}
 use Rattle.cg_data.specs.Numbering.{field_in, operand_in, field_names, operand_names}
 use Rattle.cg_element.specs.declared.element.Element.{Element}

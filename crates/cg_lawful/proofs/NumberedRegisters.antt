@@ -11,12 +11,12 @@ use Rattle.cg_base.specs.Texts.{same_text, passes}
 use Rattle.cg_attrs.specs.Clauses.{Clause, Texts, Row, Wanted, row_named, clause_faults, content_at}
 use Rattle.cg_attrs.specs.Contents.{misfit}
 use Rattle.cg_attrs.specs.Lookups.{optional_form}
-use Rattle.cg_clean.proofs.Clauses.{Clean, clean, complete, Stands, StandsWith, content_stands, looked_up, fits, is_kept, keeps, is_apart, wanted_stands_apart}
-use Rattle.cg_clean.proofs.Frames.{misfit_none}
-use Rattle.cg_clean.proofs.Lists.{append_none}
-use Rattle.cg_clean.proofs.Rules.{elements_items}
-use Rattle.cg_clean.proofs.Told.{These, told}
-use Rattle.cg_clean.proofs.Types.{word_by_word}
+use Rattle.cg_allowed.proofs.Clauses.{Clean, clean, complete, Stands, StandsWith, content_stands, looked_up, fits, is_kept, keeps, is_apart, wanted_stands_apart}
+use Rattle.cg_allowed.proofs.Frames.{misfit_none}
+use Rattle.cg_allowed.proofs.Lists.{append_none}
+use Rattle.cg_allowed.proofs.Rules.{elements_items}
+use Rattle.cg_allowed.proofs.Told.{These, told}
+use Rattle.cg_allowed.proofs.Types.{word_by_word}
 use Rattle.cg_hw.specs.Contents.{wrong, left_out}
 use Rattle.cg_hw.specs.Hardware.{hardware_in, hardware_of, hardware_faults}
 use Rattle.cg_hw.specs.Rules.{get_formals, set_formals, first_list, agree_in, is_rule, inside, expression, wrong_rule}

@@ -13,7 +13,7 @@ use Rattle.cg_choices.specs.declared.written.WrittenPart.{WrittenPart}
 use Rattle.cg_choices.specs.declared.written.WrittenPiece.{WrittenPiece}
 use Rattle.cg_choices.specs.Choices.{Chosen, part_within, parts_by, choice_of_part, parts_for, parts_with, with_choices}
 use Rattle.cg_choices.specs.Ways.{ways, most, each_choice}
-use Rattle.cg_clean.proofs.Lists.{the_found}
+use Rattle.cg_allowed.proofs.Lists.{the_found}
 use Rattle.cg_data.specs.Selecting.{Selection}
 use Rattle.cg_described.specs.Described.{written_in}
 use Rattle.cg_element.specs.declared.element.Element.{Element}

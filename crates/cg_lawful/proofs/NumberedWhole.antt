@@ -4,7 +4,7 @@ use Rattle.std.specs.List.{filter_map}
 use Rattle.std.specs.Option.{option_map}
 use Rattle.cg_base.specs.declared.form.Top.{Top}
 use Rattle.cg_choices.specs.declared.written.Written.{Written}
-use Rattle.cg_clean.proofs.Lists.{the_found}
+use Rattle.cg_allowed.proofs.Lists.{the_found}
 use Rattle.cg_data.specs.Selecting.{Selection}
 use Rattle.cg_described.specs.Described.{Described, described, written_in}
 use Rattle.cg_element.specs.Reading.{element_at, first_refusal}
@@ -34,8 +34,8 @@ use Rattle.cg_base.specs.Refusing.{least}
 use Rattle.cg_allowed.proofs.Framing.{given_here}
 use Rattle.cg_allowed.proofs.Hardware.{hardware_given}
 use Rattle.cg_allowed.proofs.Members.{IsMember}
-use Rattle.cg_clean.proofs.Elements.{Given}
-use Rattle.cg_clean.proofs.Hardware.{hardware_by}
+use Rattle.cg_allowed.proofs.Elements.{Given}
+use Rattle.cg_allowed.proofs.FormHardware.{hardware_by}
 use Rattle.cg_data.specs.Selecting.{members}
 use Rattle.cg_data.specs.Hardware.{built_in, kind_named, type_of}
 use Rattle.cg_data.specs.Numbering.{hardware_in}

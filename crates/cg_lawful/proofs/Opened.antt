@@ -5,7 +5,7 @@ use Rattle.cg_base.specs.declared.form.Form.{Form}
 use Rattle.cg_base.specs.Parts.{Headed, headed}
 use Rattle.cg_base.specs.Texts.{same_text}
 use Rattle.cg_attrs.specs.Judging.{Named, kind_among, TheFormIf, Known, recognized_by, recognized_in, recognized, said}
-use Rattle.cg_clean.proofs.Lists.{the_found}
+use Rattle.cg_allowed.proofs.Lists.{the_found}
 
 -- its head, which kind of form it is, and the elements behind its head
 pub record Opened {K A : Type 0} (named : List ℕ → Option K) (says : K → List Form → A) (f : Form) (x : A) : Type 0 where

@@ -4,7 +4,7 @@ use Rattle.std.specs.List.{list_all, filter_map, cons_option}
 use Rattle.std.specs.Option.{option_map, unwrap_or}
 use Rattle.std.proofs.lemmas.Bool.{false≢true}
 use Rattle.cg_base.specs.Grammar.{is_string_byte}
-use Rattle.cg_clean.proofs.Clauses.{first_true, second_true}
+use Rattle.cg_allowed.proofs.Clauses.{first_true, second_true}
 use Rattle.cg_insn.specs.declared.syntax.NamedPiece.{NamedPiece}
 use Rattle.cg_insn.specs.declared.syntax.NamedPiece.TheVariants as named
 use Rattle.cg_insn.specs.Syntax as syntax

@@ -7,8 +7,8 @@ use Rattle.cg_base.specs.Parts.{◌>>=◌}
 use Rattle.cg_attrs.specs.Clauses.{content_at}
 use Rattle.cg_attrs.specs.Lookups.{optional_form}
 use Rattle.cg_check.specs.declared.moded.Wanted.{Wanted}
-use Rattle.cg_clean.specs.Forms.{IsClear}
-use Rattle.cg_clean.proofs.Clauses.{Stands, StandsWith, content_stands, looked_up}
+use Rattle.cg_allowed.specs.Forms.{IsClear}
+use Rattle.cg_allowed.proofs.Clauses.{Stands, StandsWith, content_stands, looked_up}
 use Rattle.cg_known.specs.Table.{Table}
 use Rattle.cg_model.specs.Formed.{is_formed_where}
 use Rattle.cg_model.specs.declared.machine.Machine.{Machine}

@@ -1,7 +1,7 @@
 -- Where nothing is said of a clause, nothing is said of what stands in its expressions.
 use Rattle.std.proofs.Common.{◌≡◌, ◌∙◌, true, ◌&&◌, if◌then◌else◌, List, [], ◌∷◌, ◌++◌, Some, None, refl, sym, ap}
 use Rattle.std.specs.List.{list_all, flat_map}
-use Rattle.cg_clean.proofs.Lists.{append_none}
+use Rattle.cg_allowed.proofs.Lists.{append_none}
 use Rattle.cg_model.specs.declared.machine.Machine.{Machine}
 use Rattle.cg_known.specs.Table.{Table}
 use Rattle.cg_uses.specs.declared.uses.Use.{Use}

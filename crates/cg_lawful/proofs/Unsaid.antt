@@ -5,8 +5,8 @@ use Rattle.std.specs.Option.{option_or}
 use Rattle.cg_base.specs.declared.form.Form.{Form}
 use Rattle.cg_base.specs.declared.form.Top.{Top}
 use Rattle.cg_base.specs.Refusing.{first, least}
-use Rattle.cg_clean.proofs.Lists.{joined_none}
-use Rattle.cg_clean.proofs.Clauses.{Stands, standing_is}
+use Rattle.cg_allowed.proofs.Lists.{joined_none}
+use Rattle.cg_allowed.proofs.Clauses.{Stands, standing_is}
 use Rattle.cg_attrs.specs.Clauses.{Clause, standing, stands_as, clauses}
 use Rattle.cg_element.specs.declared.element.Element.{Element}
 use Rattle.cg_element.specs.Elements.{kind_of}

@@ -9,7 +9,7 @@ use Rattle.cg_allowed.proofs.Fields.{is_whole}
 use Rattle.cg_allowed.proofs.Hardware.{hardware_given, member_sized, built_in_sized}
 use Rattle.cg_allowed.proofs.Kept.{field_given, multi_given, field_kept, multi_kept}
 use Rattle.cg_allowed.proofs.Members.{both_true, IsMember, all_members, all_mapped, all_joined}
-use Rattle.cg_clean.proofs.Clauses.{first_true}
+use Rattle.cg_allowed.proofs.Clauses.{first_true}
 use Rattle.cg_element.specs.declared.element.Element.{Element}
 use Rattle.cg_element.specs.declared.element.Element.TheVariants as element
 use Rattle.cg_element.specs.Reading.{element_at, first_refusal}

@@ -13,14 +13,14 @@ use Rattle.cg_base.specs.Texts.{same_text}
 use Rattle.cg_attrs.specs.Clauses.{Clause, Texts, Row, row_named, content_at, clause_faults}
 use Rattle.cg_attrs.specs.Contents.{misfit}
 use Rattle.cg_attrs.specs.Lookups.{optional_form}
-use Rattle.cg_clean.specs.Forms.{IsClear}
-use Rattle.cg_clean.proofs.Clauses.{clean, complete, Stands, StandsWith, looked_up, fits, is_kept, keeps}
-use Rattle.cg_clean.proofs.Elements.{Given}
-use Rattle.cg_clean.proofs.Frames.{misfit_none}
-use Rattle.cg_clean.proofs.Lists.{append_none, the_found}
-use Rattle.cg_clean.proofs.Operands.{operand_by}
-use Rattle.cg_clean.proofs.Rules.{elements_items}
-use Rattle.cg_clean.proofs.Told.{These, told, clear_inside}
+use Rattle.cg_allowed.specs.Forms.{IsClear}
+use Rattle.cg_allowed.proofs.Clauses.{clean, complete, Stands, StandsWith, looked_up, fits, is_kept, keeps}
+use Rattle.cg_allowed.proofs.Elements.{Given}
+use Rattle.cg_allowed.proofs.Frames.{misfit_none}
+use Rattle.cg_allowed.proofs.Lists.{append_none, the_found}
+use Rattle.cg_allowed.proofs.Operands.{operand_by}
+use Rattle.cg_allowed.proofs.Rules.{elements_items}
+use Rattle.cg_allowed.proofs.Told.{These, told, clear_inside}
 use Rattle.cg_insn.specs.Expressions.{inside, wrong_expression, left_out_expression}
 use Rattle.cg_operand.specs.Contents.{wrong, left_out}
 use Rattle.cg_operand.specs.Operands.{operand_in, operand_of, operand_faults}

@@ -10,9 +10,9 @@ use Rattle.cg_base.specs.declared.form.Form.TheVariants.{Items}
 use Rattle.cg_base.specs.Refusing.{first}
 use Rattle.cg_attrs.specs.Clauses.{content_at, clauses}
 use Rattle.cg_check.specs.declared.moded.Wanted.{Wanted}
-use Rattle.cg_clean.proofs.Clauses.{first_true, second_true, Stands, looked_up}
-use Rattle.cg_clean.proofs.Lists.{append_none}
-use Rattle.cg_clean.proofs.Rules.{no_flaw}
+use Rattle.cg_allowed.proofs.Clauses.{first_true, second_true, Stands, looked_up}
+use Rattle.cg_allowed.proofs.Lists.{append_none}
+use Rattle.cg_allowed.proofs.Rules.{no_flaw}
 use Rattle.cg_element.specs.declared.element.Element.{Element}
 use Rattle.cg_element.specs.declared.element.Element.TheVariants as element
 use Rattle.cg_element.specs.declared.kind.Kind.TheVariants as kinds

@@ -2,8 +2,8 @@
 use Rattle.std.proofs.Common.{◌≡◌, ◌∙◌, ℕ, suc, ◌+◌, Bool, true, false, if◌then◌else◌, List, [], ◌∷◌, Option, Some, None, slice_get, refl, sym, ap, arith}
 use Rattle.std.specs.Option.{option_or}
 use Rattle.cg_base.specs.Texts.{same_text}
-use Rattle.cg_clean.proofs.Clauses.{first_true}
-use Rattle.cg_clean.proofs.Lists.{the_found}
+use Rattle.cg_allowed.proofs.Clauses.{first_true}
+use Rattle.cg_allowed.proofs.Lists.{the_found}
 use Rattle.cg_element.specs.declared.element.Element.{Element}
 use Rattle.cg_element.specs.declared.kind.Namespace.{Namespace}
 use Rattle.cg_element.specs.Belonging.{takes_part}

@@ -14,11 +14,11 @@ use Rattle.cg_attrs.specs.Frames.{isa_of, frame_in}
 use Rattle.cg_attrs.specs.Tables.{kind_named}
 use Rattle.cg_attrs.specs.declared.frame.Frame.TheVariants as frame
 use Rattle.cg_attrs.specs.declared.frame.IsaForm.{IsaForm}
-use Rattle.cg_clean.specs.Sizes.{IsNumber}
-use Rattle.cg_clean.proofs.Bundles.{bundles_law}
-use Rattle.cg_clean.proofs.Fields.{Says, number_said, symbol_said}
-use Rattle.cg_clean.proofs.Frames.{frame_by}
-use Rattle.cg_clean.proofs.Lists.{append_none}
+use Rattle.cg_allowed.specs.FormSizes.{IsNumber}
+use Rattle.cg_allowed.proofs.Bundles.{bundles_law}
+use Rattle.cg_allowed.proofs.FormFields.{Says, number_said, symbol_said}
+use Rattle.cg_allowed.proofs.Frames.{frame_by}
+use Rattle.cg_allowed.proofs.Lists.{append_none}
 use Rattle.cg_allowed.proofs.Members.{both_true}
 use Rattle.cg_element.specs.declared.element.Element.{Element}
 use Rattle.cg_element.specs.declared.element.Element.TheVariants as element

@@ -10,7 +10,7 @@ use Rattle.cg_base.specs.declared.form.Form.{Form, out-Form}
 use Rattle.cg_base.specs.declared.form.Form.TheOpen.{Number, Symbol, Str, Flag, Items}
 use Rattle.cg_base.specs.Parts.{◌>>=◌, Layer, word_of, elements_of}
 use Rattle.cg_base.specs.Texts.{same_text}
-use Rattle.cg_clean.proofs.Clauses.{first_true, second_true}
+use Rattle.cg_allowed.proofs.Clauses.{first_true, second_true}
 use Rattle.cg_hw.specs.Keywords as keywords
 use Rattle.cg_hw.specs.Keywords.{is_word_byte, may_name, names_word_in, makes_word_in, makes_word, has_words_by, has_words}
 use Rattle.cg_known.specs.declared.items.Item.{Item}

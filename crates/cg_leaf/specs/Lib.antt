@@ -1,2 +1,4 @@
 pub mod Firm
 pub mod Scope
+pub mod Counted
+pub mod Delaying

@@ -10,7 +10,7 @@ use crate::scope::{Scope, find};
 use crate::verdict::{Verdict, fits, is_loose, no_shape, word};
 use cg_base::Mode;
 use cg_model::{HwKind, Machine, Op, Rtl};
-use cg_placed::hardware_of;
+use crate::hardware_of;
 
 /// The mode of a number: its own, else the wanted one, else the word's.
 pub fn number(machine: &Machine, written: Option<Mode>, want: Option<Mode>, number: i64) -> Verdict

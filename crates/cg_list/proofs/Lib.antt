@@ -3,3 +3,4 @@ pub mod Bundled
 pub mod Lined
 pub mod Listed
 pub mod Agreed
+pub mod Decoded

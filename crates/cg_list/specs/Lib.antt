@@ -1,2 +1,3 @@
 pub mod Seen
 pub mod Bundles
+pub mod Decoding

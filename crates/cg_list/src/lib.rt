@@ -2,8 +2,10 @@
 #![tactic(auto)]
 
 mod bundle;
+mod decoding;
 mod digits;
 mod line;
 mod listing;
 
+pub use decoding::decode;
 pub use listing::list;

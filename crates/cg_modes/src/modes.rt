@@ -27,7 +27,7 @@ pub fn mode_of(machine: &Machine, rtl: &Rtl, want: Option<Mode>) -> Result<Mode,
     ensures { result ≡ spec.mode_of machine.now rtl.now want }
 {
     let mode = judge(rtl, machine, &Scope::Outside, want)?;
-    if cg_placed::is_small(machine, rtl) {
+    if cg_leaf::is_small(machine, rtl) {
         Ok(mode)
     } else {
         Err(fault(406))
@@ -445,7 +445,7 @@ fn delay(rtl: &Rtl, machine: &Machine, scope: &Scope, want: Option<Mode>) -> Ver
         return Err(fault(402));
     }
     let mode = judge(x, machine, scope, None)?;
-    if bits(mode) == 0 && !cg_placed::delays(x, machine) {
+    if bits(mode) == 0 && !cg_leaf::delays(x, machine) {
         Ok(Mode::Void)
     } else {
         Err(fault(402))

@@ -17,7 +17,7 @@ ghost use Rattle.cg_pure.specs.Surroundings.{seen_value, seen_fields, seen_all, 
 use cg_base::Mode;
 use cg_model::{Field, Machine, Multi, Rtl, extended, field_bits};
 use cg_typed::around::Around;
-use cg_valued::eval;
+use cg_typed::eval;
 
 /// The value of a pure expression, by what stands around it.
 #[tactic(auto, using(crate::proofs::ValueLaws::value_rules))]

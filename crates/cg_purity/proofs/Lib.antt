@@ -1,3 +1,5 @@
 pub mod Nodes
 pub mod Naming
 pub mod Dividing
+pub mod Leading
+pub mod Settling

@@ -3,13 +3,16 @@
 #![tactic(auto)]
 
 mod cells;
+mod circle;
 mod names;
 mod own;
 mod purity;
+mod rule;
 mod unnamed;
 mod walk;
 
 pub use cells::{Cells, first_no_cell, first_no_register};
+pub use circle::first_circular;
 pub use names::{Names, Standing, first_stray};
 pub use own::{first_other_mode, first_outside};
 pub use purity::{Purity, first_impure, names_many};

@@ -4,3 +4,4 @@ pub mod Finding
 pub mod Units
 pub mod E304
 pub mod E306
+pub mod E305

@@ -38,7 +38,7 @@ use Rattle.cg_expanded.specs.Choices.{slot_name, distinct}
 use Rattle.cg_data.specs.Selecting.{Selection, element_at}
 use Rattle.cg_data.specs.Numbering.{Numbering}
 use Rattle.cg_described.specs.Described.{Described, scope_in}
-use Rattle.cg_timing.specs.Timing.{cycles_of}
+use Rattle.cg_described.specs.Timing.{cycles_of}
 
 -- The slot of a piece.
 abbrev pub slot_of : WrittenPiece → Option (List ℕ)

@@ -18,12 +18,11 @@ use cg_attrs::{Attr, AttrValue};
 use cg_base::{Form, List, NoMemory, Text};
 use cg_choices::{NamedPart, Written, WrittenAssertion, WrittenPart, WrittenPiece};
 use cg_data::{Numbering, Selection, wrapped};
-use cg_described::Described;
+use cg_described::{Described, cycles_of};
 use cg_element::Element;
 use cg_insn::{InsnForm, InstructionForm, NamedPiece};
 use cg_model::{Insn, Op, Part, Piece, Rtl};
 use cg_names::{Rule, Scope, built};
-use cg_timing::cycles_of;
 use std::alloc::Global;
 
 /// The number of a name, from 0 to 65,535, and 0 where it has none.

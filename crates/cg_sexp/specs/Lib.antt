@@ -5,11 +5,4 @@
 pub mod Machine
 pub mod Held
 -- the laws between the grammar and the machine; `Laws` has what the proof of `read` cites
-pub mod Taken
-pub mod Stops
-pub mod Front
-pub mod Sound
-pub mod Laws
 -- why what is printed reads as the form again; `Last` has what the proof of `print` cites
-pub mod Printed
-pub mod Last

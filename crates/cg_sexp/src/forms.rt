@@ -10,7 +10,7 @@ use std::alloc::Global;
 
 /// The one list of forms that a text spells, each with its file and line, or the refusal of the
 /// first fault in the text, E101 to E105 (docs/LANGUAGE.md, "Texts and forms"; docs/REFUSALS.md).
-#[tactic(auto, using(crate::specs::Laws::list_found, crate::specs::Laws::fault_found))]
+#[tactic(auto, using(crate::proofs::Laws::list_found, crate::proofs::Laws::fault_found))]
 pub fn read(alloc: Global, bytes: &[u8], file: u16) -> Result<Forms, Stop>
     ensures { Answered (Reads bytes.now file) (IsFault bytes.now file) result }
 {
@@ -20,7 +20,7 @@ pub fn read(alloc: Global, bytes: &[u8], file: u16) -> Result<Forms, Stop>
 
 /// Nothing is done here. The clauses are the laws that make `read` the one reading: a text has a
 /// list of forms exactly where it has no fault, and one list or one first fault at most.
-#[tactic(auto, using(crate::specs::Laws::one_fault))]
+#[tactic(auto, using(crate::proofs::Laws::one_fault))]
 pub fn one_reading()
     ensures one_list { (bytes : Listed ℕ) (file : ℕ) (a b : Formed) → Reads bytes file a → Reads bytes file b → a ≡ b }
     ensures one_fault { (bytes : Listed ℕ) (file : ℕ) (q r : Refused) → IsFault bytes file q → IsFault bytes file r → q ≡ r }

@@ -52,7 +52,7 @@ fn push_form(alloc: Global, out: &mut Text, form: &Form) -> Result<(), NoMemory>
 ///
 /// Where each symbol is a token, strings hold bytes that may stand in one, and lists are at most
 /// 200 deep, the text reads as the form again. A form that an expansion made need not be so.
-#[tactic(auto, using(crate::specs::Printed::printed_reads))]
+#[tactic(auto, using(crate::proofs::Printed::printed_reads))]
 pub fn print(alloc: Global, form: &Form) -> Result<Text, NoMemory>
     ensures text { IfOk result (λ text. text ≡ printed form.now) }
     ensures reads_again { (file : ℕ) → Readable 200 (form.now ∷ []) → Reads (printed form.now) file (record { tops = top file (form.now, 1) ∷ [] }) }

@@ -6,3 +6,6 @@ pub mod Shaped
 pub mod Lacking
 pub mod Named
 pub mod Depth
+pub mod Covered
+pub mod Outside
+pub mod Numbered

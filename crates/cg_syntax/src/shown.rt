@@ -13,7 +13,7 @@ ghost use Rattle.cg_syntax.specs.Showing.{shown_at, slot_shown, marks_shown, mar
 use cg_base::{Mode, NoMemory, Text, bits, decimal, hex, signed};
 use cg_code::{insn_at, operand_at, slot_mode};
 use cg_model::{Hardware, HwKind, Machine, Mark, NamedValue, Operand, Part, Values};
-use cg_squeeze::squeezed_syntax;
+use cg_split::squeezed_syntax;
 use std::alloc::Global;
 
 /// The first word whose own value is this, modulo 2^bits.

@@ -7,7 +7,7 @@ use Rattle.cg_base.specs.declared.form.Top.{Top}
 use Rattle.cg_base.specs.declared.form.Forms.{Forms}
 use Rattle.cg_base.specs.declared.refusal.Refusal.{Refusal}
 use Rattle.cg_base.specs.Reading.{Reads, IsFault}
-use Rattle.cg_sexp.specs.Laws.{list_or_fault}
+use Rattle.cg_sexp.proofs.Laws.{list_or_fault}
 use Rattle.cg_io.specs.Asking.{Asking}
 use Rattle.cg_io.specs.Held.{Held}
 use Rattle.cg_pmacro.specs.declared.tops.TheConstants.{SHORT_FORMS}

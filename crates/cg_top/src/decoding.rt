@@ -1,10 +1,10 @@
 ghost use Rattle.std.specs.Prelude.{◌≡◌, IfOk};
-ghost use Rattle.cg_decode.specs.Lines.{decoded_line};
+ghost use Rattle.cg_list.specs.Decoding.{decoded_line};
 ghost use Rattle.cg_model.specs.Sound.{IsSound};
 
 use bumpalo::Bump;
 use cg_base::{NoMemory, Text};
-use cg_decode::decode;
+use cg_list::decode;
 use cg_model::Machine;
 use cg_tree::build;
 use std::alloc::Global;

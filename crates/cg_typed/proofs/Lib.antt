@@ -7,3 +7,4 @@ pub mod Branches
 pub mod Joins
 pub mod Choices
 pub mod Rooms
+pub mod Rules

@@ -3,7 +3,10 @@
 #![tactic(auto)]
 
 pub mod around;
+mod evaluator;
 pub mod leads;
 pub mod leaf;
 pub mod typed;
 pub mod words;
+
+pub use evaluator::eval;

@@ -7,10 +7,7 @@ ghost use Rattle.cg_expander.specs.Expansion as meant;
 
 use super::expand;
 use cg_base::{List, NoMemory, Text};
-use cg_builtin::{
-    Binding, Body, BuiltIn, Halt, Macro, Value, elements, miscounted, misfit, own_symbol, pair_of,
-};
-use cg_replacing::{replaced, without_name};
+use cg_builtin::{Binding, Body, BuiltIn, Halt, Macro, Value, elements, miscounted, misfit, own_symbol, pair_of, replaced, without_name};
 use std::alloc::Global;
 
 #[cycle(expansion)]

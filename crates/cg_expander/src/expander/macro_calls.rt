@@ -5,10 +5,7 @@ ghost use Rattle.cg_expander.specs.Expansion as meant;
 use super::{each, expand};
 use crate::charging::charge;
 use cg_base::{List, NoMemory, Text};
-use cg_builtin::{
-    Binding, Body, BuiltIn, Halt, Macro, Value, elements, faulty, miscounted, misfit, names_of,
-};
-use cg_replacing::replaced;
+use cg_builtin::{Binding, Body, BuiltIn, Halt, Macro, Value, elements, faulty, miscounted, misfit, names_of, replaced};
 use std::alloc::Global;
 
 /// The call of a macro with arguments, with its cost.

@@ -1,4 +1,4 @@
-use Rattle.cg_sexp.specs.Laws.{one_list, not_both, list_or_fault}
+use Rattle.cg_sexp.proofs.Laws.{one_list, not_both, list_or_fault}
 use Rattle.cg_sexp.proofs.forms.one_reading.Goals as goal
 
 pub returns-clause-one_list : goal.returns-clause-one_list

@@ -1,9 +1,0 @@
--- The sizes that forms without fault say.
-use Rattle.cg_clean.specs.Sizes.{AreSizes}
-use Rattle.cg_clean.proofs.Frames.{word_law, size_law}
-use Rattle.cg_clean.proofs.Fields.{place_law}
-
-pub sizes_law : AreSizes
-sizes_law = record { words = word_law; sizes = size_law; places = place_law }
-
-pub ruleset sizes = (sizes_law)

@@ -1,6 +1,0 @@
-//! The line that says what bytes are decoded to.
-#![tactic(auto)]
-
-mod lines;
-
-pub use lines::decode;

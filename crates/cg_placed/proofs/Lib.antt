@@ -1,4 +1,0 @@
-pub mod Counting
-pub mod Reaching
-pub mod Sizes
-pub mod Tables

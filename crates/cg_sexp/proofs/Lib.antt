@@ -1,0 +1,7 @@
+pub mod Taken
+pub mod Stops
+pub mod Front
+pub mod Sound
+pub mod Laws
+pub mod Printed
+pub mod Last
