@@ -22,7 +22,7 @@ use Rattle.cg_hw.specs.Types.{names_mode, is_count, registers, is_sized_in, is_i
 use Rattle.cg_hw.specs.declared.form.HardwareForm.{HardwareForm}
 use Rattle.cg_ifield.specs.Contents.{is_field_mode}
 use Rattle.cg_model.specs.Formed.{has_bits, is_address, same_mode, is_formed_where}
-use Rattle.cg_model.specs.Operators.{address_mode}
+use Rattle.cg_base.specs.Modes.{address_mode}
 use Rattle.cg_model.specs.Placed.{is_register}
 use Rattle.cg_model.specs.declared.hardware.Hardware.{Hardware}
 use Rattle.cg_model.specs.declared.hardware.HwKind.{HwKind}

@@ -8,6 +8,7 @@ pub mod Faults
 pub mod Reading
 pub mod Printing
 pub mod Texts
+pub mod Characters
 pub mod ModeWords
 pub mod Parts
 pub mod Refusing

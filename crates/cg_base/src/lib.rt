@@ -3,6 +3,7 @@
 
 mod arithmetic;
 mod bytes;
+mod character;
 mod fault;
 mod form;
 mod kind;
@@ -16,11 +17,12 @@ mod refusal;
 mod text;
 
 pub use bytes::{number_at, put_number};
+pub use character::{is_in_sum, is_in_word};
 pub use fault::{Fault, refusal_at, stop_at};
 pub use form::{Form, Forms, Top};
 pub use kind::{Kind, NoToken};
 pub use list::List;
-pub use mode::{Endian, Mode, bits, signed};
+pub use mode::{Endian, Mode, address_mode, bits, mode_place, mode_word, signed, word_mode};
 pub use mode_words::{gives_mode, is_among, is_mode, is_value_mode};
 pub use number::{decimal, hex, read_digits, read_number};
 pub use operation::{BinaryOp, DivideByZero, TernaryOp, UnaryOp, binary, convert, ternary, unary};

@@ -14,7 +14,7 @@ use Rattle.cg_hw.specs.declared.form.HardwareForm.{HardwareForm}
 use Rattle.cg_element.specs.declared.element.Element.{Element}
 use Rattle.cg_element.specs.declared.element.Element.TheVariants.{Frame}
 use Rattle.cg_element.specs.declared.kind.Namespace.TheVariants.{Keywords}
-use Rattle.cg_model.specs.Operators.{address_mode}
+use Rattle.cg_base.specs.Modes.{address_mode}
 use Rattle.cg_model.specs.declared.hardware.Hardware.{Hardware}
 use Rattle.cg_model.specs.declared.hardware.HwKind.{HwKind}
 use Rattle.cg_model.specs.declared.hardware.HwKind.TheVariants.{Register, Memory, Pc, Immediate, Address}

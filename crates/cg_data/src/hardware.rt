@@ -10,10 +10,9 @@ use crate::framing::Framing;
 use crate::keywords::words;
 use crate::members::hardware_member;
 use crate::selecting::Selection;
-use cg_base::{Form, List, Mode, NoMemory, Text, only_natural};
+use cg_base::{Form, List, Mode, NoMemory, Text, address_mode, only_natural};
 use cg_hw::HardwareForm;
 use cg_model::{Hardware, HwKind};
-use cg_names::address_mode;
 use cg_rtl::first_symbol;
 use std::alloc::Global;
 

@@ -2,12 +2,11 @@ ghost use Rattle.std.specs.Prelude.{◌≡◌, true};
 ghost use Rattle.std.specs.List.{list_all};
 ghost use Rattle.cg_formed.specs.Wholes.{is_frame, are_elements};
 ghost use Rattle.cg_model.specs.Formed as spec;
-ghost use Rattle.cg_model.specs.Operators.{address_mode};
-ghost use Rattle.cg_model.specs.faults.E312.{is_in_word};
-ghost use Rattle.cg_model.specs.faults.Judging.{mode_place};
+ghost use Rattle.cg_base.specs.Modes.{address_mode, mode_place};
+ghost use Rattle.cg_base.specs.Characters.{is_in_word};
 
 use crate::standing::{are_expressions, is_expression, is_expression_where};
-use cg_base::{Mode, bits};
+use cg_base::{Mode, address_mode, bits, is_in_word, mode_place};
 use cg_model::{
     Field, Hardware, HwKind, Insn, Keyword, Machine, MacroInsn, Multi, NamedValue, Piece,
 };
@@ -71,13 +70,6 @@ fn are_multis(multis: &[Multi]) -> bool
     true
 }
 
-/// Whether a character may stand in a word.
-fn is_in_word(byte: u8) -> bool
-    ensures { result ≡ is_in_word byte }
-{
-    byte.is_ascii_alphanumeric() || byte == b'_' || byte == b'.' || byte == b'%' || byte == b'$'
-}
-
 /// Whether all of some may.
 fn are_in_word(bytes: &[u8]) -> bool
     ensures { result ≡ list_all is_in_word bytes.now }
@@ -124,36 +116,6 @@ fn is_address(kind: HwKind) -> bool
     ensures { result ≡ spec.is_address kind }
 {
     matches!(kind, HwKind::Memory | HwKind::Pc | HwKind::Address)
-}
-
-/// The mode of an address: the cpu's word without a sign.
-fn address_mode(bits: u8) -> Mode
-    ensures { result ≡ address_mode bits }
-{
-    match bits {
-        8 => Mode::Uqi,
-        16 => Mode::Uhi,
-        32 => Mode::Usi,
-        _ => Mode::Udi,
-    }
-}
-
-/// The place of a mode among all modes.
-fn mode_place(mode: Mode) -> u8
-    ensures { result ≡ mode_place mode }
-{
-    match mode {
-        Mode::Bi => 0,
-        Mode::Qi => 1,
-        Mode::Hi => 2,
-        Mode::Si => 3,
-        Mode::Di => 4,
-        Mode::Uqi => 5,
-        Mode::Uhi => 6,
-        Mode::Usi => 7,
-        Mode::Udi => 8,
-        Mode::Void => 9,
-    }
 }
 
 /// Whether hardware's kind, mode, count, words and rules are such as may be.

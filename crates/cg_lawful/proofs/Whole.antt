@@ -18,7 +18,7 @@ use Rattle.cg_ifield.specs.declared.form.PlainForm.{PlainForm}
 use Rattle.cg_ifield.specs.declared.form.MultiForm.{MultiForm}
 use Rattle.cg_hw.specs.declared.form.HardwareForm.{HardwareForm}
 use Rattle.cg_model.specs.Formed.{is_size, has_bits, is_formed_where, is_field, is_multi, is_address, same_mode, are_words, is_hardware}
-use Rattle.cg_model.specs.Operators.{address_mode}
+use Rattle.cg_base.specs.Modes.{address_mode}
 use Rattle.cg_model.specs.Placed.{is_register}
 use Rattle.cg_model.specs.declared.field.Field.{Field}
 use Rattle.cg_model.specs.declared.field.Multi.{Multi}

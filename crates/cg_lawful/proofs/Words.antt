@@ -17,7 +17,7 @@ use Rattle.cg_known.specs.declared.items.Item.{Item}
 use Rattle.cg_known.specs.Items.{written_in, item_name_by, item_name, item_before, items_from}
 use Rattle.cg_attrs.specs.Contents.{are_items, item_value, next_value}
 use Rattle.cg_model.specs.Formed.{is_word, are_words}
-use Rattle.cg_model.specs.faults.E312.{is_in_word}
+use Rattle.cg_base.specs.Characters.{is_in_word}
 use Rattle.cg_data.specs.Hardware.{word_in, keyword_of, own_words}
 
 -- the bytes of a word

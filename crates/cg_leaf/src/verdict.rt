@@ -1,10 +1,9 @@
 ghost use Rattle.std.specs.Prelude.{◌≡◌, ℕ, if◌then◌else◌, ◌==◌, ◌/◌, Ok};
 ghost use Rattle.cg_model.specs.declared.rtl.Rtl.{out-Rtl};
 ghost use Rattle.cg_model.specs.Checked as checked;
-ghost use Rattle.cg_base.specs.Modes.{bits_of};
-ghost use Rattle.cg_model.specs.Operators.{word_mode, address_mode};
+ghost use Rattle.cg_base.specs.Modes.{bits_of, word_mode, address_mode};
 
-use cg_base::{Mode, bits};
+use cg_base::{Mode, address_mode, bits, word_mode};
 use cg_model::{Machine, ModeFault, Op, Rtl};
 
 /// A mode, or why there is none.
@@ -148,24 +147,14 @@ pub fn fits(mode: Mode, number: i64) -> Verdict
 pub fn word(machine: &Machine) -> Mode
     ensures { result ≡ word_mode machine.now.word_bits }
 {
-    match machine.word_bits {
-        8 => Mode::Qi,
-        16 => Mode::Hi,
-        32 => Mode::Si,
-        _ => Mode::Di,
-    }
+    word_mode(machine.word_bits)
 }
 
 /// The mode of an address.
 pub fn address(machine: &Machine) -> Mode
     ensures { result ≡ address_mode machine.now.word_bits }
 {
-    match machine.word_bits {
-        8 => Mode::Uqi,
-        16 => Mode::Uhi,
-        32 => Mode::Usi,
-        _ => Mode::Udi,
-    }
+    address_mode(machine.word_bits)
 }
 
 /// A loose expression is a number without a mode of its own.

@@ -16,7 +16,7 @@ use Rattle.cg_model.specs.Listing.{Decoder, Shown, word_for, is_address, shown_b
 use Rattle.cg_model.specs.Matching.{length_of, last_end, fields_of_parts}
 use Rattle.cg_model.specs.Slots.{slot_mode, slots_of, values}
 use Rattle.cg_model.specs.Squeezing.{is_blank_mark, is_joining_mark, goes_on, put_first, words, begins, ends, behind, spaced, marks, squeezed_syntax}
-use Rattle.cg_model.specs.faults.E312.{is_in_word}
+use Rattle.cg_base.specs.Characters.{is_in_word}
 use Rattle.cg_model.specs.declared.hardware.Hardware.{Hardware}
 use Rattle.cg_model.specs.declared.hardware.Keyword.{Keyword}
 use Rattle.cg_model.specs.declared.hardware.NamedValue.{NamedValue}

@@ -7,9 +7,9 @@ use Rattle.cg_base.specs.declared.UnaryOp.{UnaryOp}
 use Rattle.cg_base.specs.declared.UnaryOp.TheVariants.{Not}
 use Rattle.cg_base.specs.declared.BinaryOp.{BinaryOp}
 use Rattle.cg_base.specs.declared.TernaryOp.{TernaryOp}
-use Rattle.cg_base.specs.Modes.{bits_of}
+use Rattle.cg_base.specs.Modes.{bits_of, word_mode, address_mode}
 use Rattle.cg_model.specs.Placed.{Level, hardware_of, delays, small}
-use Rattle.cg_model.specs.Operators.{word_mode, address_mode, at_number, unary_ops, binary_ops, ternary_ops, kind_of, keeps_mode}
+use Rattle.cg_model.specs.Operators.{at_number, unary_ops, binary_ops, ternary_ops, kind_of, keeps_mode}
 use Rattle.cg_model.specs.declared.hardware.HwKind.TheVariants as kind
 use Rattle.cg_model.specs.declared.hardware.Hardware.{Hardware}
 use Rattle.cg_model.specs.declared.machine.Machine.{Machine}

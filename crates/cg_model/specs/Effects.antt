@@ -5,9 +5,9 @@ use Rattle.cg_base.specs.declared.Endian.{Endian}
 use Rattle.cg_base.specs.declared.Mode.{Mode}
 use Rattle.cg_base.specs.declared.Mode.TheVariants.{Usi, Void}
 use Rattle.cg_base.specs.Bytes.{number_of, bytes_of}
-use Rattle.cg_base.specs.Modes.{bits_of}
+use Rattle.cg_base.specs.Modes.{bits_of, address_mode}
 use Rattle.cg_base.specs.Operations.{converted}
-use Rattle.cg_model.specs.Operators.{address_mode, at_number}
+use Rattle.cg_model.specs.Operators.{at_number}
 use Rattle.cg_model.specs.Checked.{Locals, from_outside, local_of}
 use Rattle.cg_model.specs.Values.{Meaning, Way, Steps, mode_at, any_gives, in_order_gives, shared_gives, meaning}
 use Rattle.cg_model.specs.Slots.{Named, slot_mode, in_semantics, in_rule}

@@ -2,12 +2,10 @@
 use Rattle.std.specs.Prelude.{◌≡◌, ℕ, zero, suc, ◌*◌, ◌/◌, max, Bool, true, false, not, ◌&&◌, ◌||◌, ◌==◌, nat_le, is_some, List, [], ◌∷◌, length, ℤ, pos, negsuc, Option, Some, None}
 use Rattle.std.specs.List.{list_all}
 use Rattle.cg_base.specs.Grammar.{is_string_byte}
-use Rattle.cg_base.specs.Modes.{bits_of}
+use Rattle.cg_base.specs.Modes.{bits_of, mode_place, address_mode}
 use Rattle.cg_base.specs.declared.mode.Mode.{Mode}
-use Rattle.cg_model.specs.Operators.{address_mode}
 use Rattle.cg_model.specs.Placed.{is_register}
-use Rattle.cg_model.specs.faults.E312.{is_in_word}
-use Rattle.cg_model.specs.faults.Judging.{mode_place}
+use Rattle.cg_base.specs.Characters.{is_in_word}
 use Rattle.cg_model.specs.declared.field.Field.{Field}
 use Rattle.cg_model.specs.declared.field.Multi.{Multi}
 use Rattle.cg_model.specs.declared.hardware.Hardware.{Hardware}

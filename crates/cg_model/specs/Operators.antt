@@ -1,7 +1,5 @@
--- The operations of expressions by their places, what numbers name, and the modes of the cpu's word.
+-- The operations of expressions by their places, and what numbers name.
 use Rattle.std.specs.Prelude.{ℕ, Bool, true, false, ◌==◌, if◌then◌else◌, List, [], ◌∷◌, ℤ, pos, negsuc, Option, None, slice_get}
-use Rattle.cg_base.specs.declared.Mode.{Mode}
-use Rattle.cg_base.specs.declared.Mode.TheVariants.{Qi, Hi, Si, Di, Uqi, Uhi, Usi, Udi}
 use Rattle.cg_base.specs.declared.UnaryOp.{UnaryOp}
 use Rattle.cg_base.specs.declared.UnaryOp.TheVariants.{Neg, Inv, Not, Abs}
 use Rattle.cg_base.specs.declared.BinaryOp.{BinaryOp}
@@ -11,14 +9,6 @@ use Rattle.cg_base.specs.declared.TernaryOp.TheVariants.{Addc, Subc, AddCflag, A
 use Rattle.cg_base.specs.Operations.{takes_count}
 use Rattle.cg_model.specs.declared.judged.Kind.{Kind}
 use Rattle.cg_model.specs.declared.judged.Kind.TheVariants.{Arithmetic, Shift, Comparison}
-
--- The mode of the cpu's word with a sign, in which a number stands of which nothing else is wanted.
-abbrev pub word_mode : ℕ → Mode
-word_mode bits = if bits == 8 then Qi else if bits == 16 then Hi else if bits == 32 then Si else Di
-
--- The mode of an address: the cpu's word without a sign.
-abbrev pub address_mode : ℕ → Mode
-address_mode bits = if bits == 8 then Uqi else if bits == 16 then Uhi else if bits == 32 then Usi else Udi
 
 -- What a number names in a list. A negative one names nothing.
 abbrev pub at_number : {A : Type 0} → List A → ℤ → Option A

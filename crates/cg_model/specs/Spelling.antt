@@ -14,7 +14,7 @@ use Rattle.cg_model.specs.declared.machine.Machine.{Machine}
 use Rattle.cg_model.specs.declared.operand.Operand.{Operand}
 use Rattle.cg_model.specs.declared.written.Sum.{Sum}
 use Rattle.cg_model.specs.declared.written.Term.{Term}
-use Rattle.cg_model.specs.faults.E312.{is_alphanumeric}
+use Rattle.cg_base.specs.Characters.{is_alphanumeric}
 
 -- The small letter of a letter. All else stays.
 abbrev pub lower : ℕ → ℕ

@@ -4,7 +4,7 @@ use Rattle.cg_model.specs.declared.insn.Piece.{Piece}
 use Rattle.cg_model.specs.declared.insn.Piece.TheVariants as piece
 use Rattle.cg_model.specs.declared.written.Mark.{Mark}
 use Rattle.cg_model.specs.declared.written.Mark.TheVariants.{Byte, Slot}
-use Rattle.cg_model.specs.faults.E312.{is_in_word}
+use Rattle.cg_base.specs.Characters.{is_in_word}
 
 -- A blank or a tab.
 abbrev pub is_blank : ℕ → Bool

@@ -9,9 +9,9 @@ use Rattle.cg_base.specs.declared.UnaryOp.{UnaryOp}
 use Rattle.cg_base.specs.declared.UnaryOp.TheVariants.{Not}
 use Rattle.cg_base.specs.declared.BinaryOp.{BinaryOp}
 use Rattle.cg_base.specs.declared.TernaryOp.{TernaryOp}
-use Rattle.cg_base.specs.Modes.{bits_of}
+use Rattle.cg_base.specs.Modes.{bits_of, word_mode}
 use Rattle.cg_base.specs.Operations.{wrapped, as_signed, divides, unary_value, binary_value, ternary_value}
-use Rattle.cg_model.specs.Operators.{word_mode, at_number, unary_ops, binary_ops, ternary_ops, kind_of, keeps_mode}
+use Rattle.cg_model.specs.Operators.{at_number, unary_ops, binary_ops, ternary_ops, kind_of, keeps_mode}
 use Rattle.cg_model.specs.Placed.{Level}
 use Rattle.cg_model.specs.Checked.{Checked, Locals, Verdict, checked_step, leading, leading_choice, arm_choice, is_loose, last_loose, any_mode, ends_with_else}
 use Rattle.cg_model.specs.declared.judged.Kind.{Kind}

@@ -5,13 +5,12 @@ use Rattle.std.proofs.lemmas.Grind.{common_steps}
 use Rattle.std.proofs.lemmas.List.{get_or-drop, length-drop, drop_more}
 use Rattle.cg_base.specs.declared.Mode.{Mode}
 use Rattle.cg_base.specs.declared.Mode.TheVariants.{Void}
-use Rattle.cg_model.specs.Operators.{word_mode}
+use Rattle.cg_base.specs.Modes.{word_mode, bits_of}
 use Rattle.cg_model.specs.Checked.{Checked, Locals, Verdict, checked, checked_step, verdict_of, and_then, meets, each_value, each_part, part_turn, all_but_last, last_verdict, last_loose, is_arm, taken_by, arm_choice, ends_with_else, fault, stated, judged_value, no_shape}
 use Rattle.cg_model.specs.declared.rtl.Op.TheVariants.{Arm, Cond, Case, Join}
 use Rattle.cg_model.specs.declared.machine.Machine.{Machine}
 use Rattle.cg_model.specs.declared.rtl.Rtl.{Rtl, out-Rtl}
 use Rattle.cg_model.specs.declared.rtl.Rtl.TheFolds.{fold_out-Rtl}
-use Rattle.cg_base.specs.Modes.{bits_of}
 use Rattle.cg_leaf.specs.Firm.{firm_place}
 use Rattle.cg_modes.specs.Arms.{filled, before, arm_turn, walked, valueless, led, chosen, armed}
 use Rattle.cg_modes.proofs.Laws.{verdict_out, said_is, take_map, drop_map, take_min, drop_min, meets_self}

@@ -9,7 +9,7 @@ use Rattle.cg_base.specs.declared.mode.Mode.TheVariants.{Bi, Qi, Hi, Si, Di, Uqi
 use Rattle.cg_base.specs.Parts.{◌>>=◌, Layer, Headed, headed, string_of, number_of, elements_of}
 use Rattle.cg_base.specs.Refusing.{first}
 use Rattle.cg_base.specs.Texts.{same_text}
-use Rattle.cg_model.specs.Operators.{word_mode, address_mode}
+use Rattle.cg_base.specs.Modes.{word_mode, address_mode}
 use Rattle.cg_model.specs.declared.rtl.Op.{Op}
 use Rattle.cg_model.specs.declared.rtl.Op.TheVariants as op
 use Rattle.cg_model.specs.declared.rtl.Rtl.{Rtl, roll-Rtl}

@@ -20,4 +20,4 @@ pub use names::{
 };
 pub use resolver::{built, resolve};
 pub use scope::{EnumValue, Lack, Rule, Scope};
-pub use words::{Wording, address_mode, mode_first, mode_named};
+pub use words::{Wording, mode_first, mode_named};

@@ -1,11 +1,11 @@
 //! The words for modes, and what they stand for.
 
 ghost use Rattle.std.specs.Prelude.{◌≡◌, map};
-ghost use Rattle.cg_model.specs.Operators.{word_mode, address_mode};
+ghost use Rattle.cg_base.specs.Modes.{word_mode, address_mode};
 ghost use Rattle.cg_names.specs.Names.{found_under, mode_words, meant, mode_named, mode_first};
 ghost use Rattle.cg_names.specs.Read.{seen_word};
 
-use cg_base::{Form, Mode};
+use cg_base::{Form, Mode, address_mode, word_mode};
 use cg_rtl::first_symbol;
 
 /// What a word for a mode says.
@@ -23,30 +23,6 @@ pub enum Wording {
 struct ModeWord {
     word: &'static [u8],
     wording: Wording,
-}
-
-/// The mode of the cpu's word.
-fn word_mode(bits: u8) -> Mode
-    ensures { result ≡ word_mode bits }
-{
-    match bits {
-        8 => Mode::Qi,
-        16 => Mode::Hi,
-        32 => Mode::Si,
-        _ => Mode::Di,
-    }
-}
-
-/// The mode of an address, where the cpu's word has so many bits.
-pub fn address_mode(bits: u8) -> Mode
-    ensures { result ≡ address_mode bits }
-{
-    match bits {
-        8 => Mode::Uqi,
-        16 => Mode::Uhi,
-        32 => Mode::Usi,
-        _ => Mode::Udi,
-    }
 }
 
 /// Says what a word stands for.

@@ -4,7 +4,7 @@ use Rattle.std.specs.List.{list_all}
 use Rattle.std.proofs.lemmas.Bool.{false≢true, eqb-true}
 use Rattle.std.proofs.lemmas.Bool.Decides.{nat_tests}
 use Rattle.cg_base.specs.declared.mode.Mode.{Mode}
-use Rattle.cg_base.specs.Modes.{bits_of}
+use Rattle.cg_base.specs.Modes.{bits_of, address_mode}
 use Rattle.cg_model.specs.declared.field.Field.{Field}
 use Rattle.cg_model.specs.declared.field.Multi.{Multi}
 use Rattle.cg_model.specs.declared.machine.Machine.{Machine}
@@ -12,7 +12,6 @@ use Rattle.cg_model.specs.declared.rtl.Op.{Op}
 use Rattle.cg_model.specs.declared.rtl.Op.TheVariants as op
 use Rattle.cg_model.specs.declared.rtl.Rtl.{Rtl, roll-Rtl, Rtl-F, map-Rtl, fold-roll-Rtl, ind-Rtl}
 use Rattle.cg_model.specs.Matching.{end_of, last_end}
-use Rattle.cg_model.specs.Operators.{address_mode}
 use Rattle.cg_model.specs.Sound.{Allowed, allowed_step, is_allowed, is_among, names_among, of_value, of_fields, is_word, IsSound, SoundField, SoundMulti}
 use Rattle.cg_typed.specs.Seen.{is_had, all_had, below}
 use Rattle.cg_pure.specs.Evaluable.{is_held, all_held}

@@ -1,9 +1,10 @@
 ghost use Rattle.std.specs.Prelude.{◌≡◌};
 ghost use Rattle.cg_base.specs.Refusing.{first};
+ghost use Rattle.cg_base.specs.Modes.{mode_place};
 ghost use Rattle.cg_model.specs.faults.Judging as spec;
 
 use crate::walk::{NodeRule, first_in};
-use cg_base::Mode;
+use cg_base::{Mode, mode_place};
 use cg_model::{MachineFault, Op, Purpose, Rtl, Said};
 
 /// Whether an expression has a value of its own.
@@ -82,24 +83,6 @@ pub fn first_outside(purpose: Purpose, rtl: &Rtl) -> Option<MachineFault>
     ensures { result ≡ first (spec.outside_rules purpose rtl.now) }
 {
     first_in(&Belonging { purpose }, rtl)
-}
-
-/// The place of a mode among all modes.
-fn mode_place(mode: Mode) -> u8
-    ensures { result ≡ spec.mode_place mode }
-{
-    match mode {
-        Mode::Bi => 0,
-        Mode::Qi => 1,
-        Mode::Hi => 2,
-        Mode::Si => 3,
-        Mode::Di => 4,
-        Mode::Uqi => 5,
-        Mode::Uhi => 6,
-        Mode::Usi => 7,
-        Mode::Udi => 8,
-        Mode::Void => 9,
-    }
 }
 
 /// Whether a mode is another one.

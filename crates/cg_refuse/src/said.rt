@@ -2,27 +2,9 @@ ghost use Rattle.std.specs.Prelude.{◌≡◌, IfOk};
 ghost use Rattle.cg_model.specs.faults.Refusing as spec;
 ghost use Rattle.cg_refuse.specs.Naming.{multi_name, hardware_name, operand_name};
 
-use cg_base::{Mode, NoMemory, Refusal, Text, decimal};
+use cg_base::{Mode, NoMemory, Refusal, Text, decimal, mode_word};
 use cg_model::{Machine, MachineFault, Op, Said};
 use std::alloc::Global;
-
-/// The word for a mode.
-fn mode_text(mode: Mode) -> &'static [u8]
-    ensures { result.now ≡ spec.mode_text mode }
-{
-    match mode {
-        Mode::Bi => b"BI",
-        Mode::Qi => b"QI",
-        Mode::Hi => b"HI",
-        Mode::Si => b"SI",
-        Mode::Di => b"DI",
-        Mode::Uqi => b"UQI",
-        Mode::Uhi => b"UHI",
-        Mode::Usi => b"USI",
-        Mode::Udi => b"UDI",
-        Mode::Void => b"VOID",
-    }
-}
 
 /// By which name a rule names its value, its index and its new value.
 fn own_name(op: Op) -> &'static [u8]
@@ -100,7 +82,7 @@ pub fn said_text(alloc: Global, machine: &Machine, own: &[u8], said: Said) -> Re
         Said::Operand(k) => Ok(Text::of(alloc, operand_name(machine, k))?),
         Said::Count(n) => Ok(decimal(alloc, n as i128)?),
         Said::Number(n) => Ok(decimal(alloc, n as i128)?),
-        Said::Modes(k, l) => Ok(spaced(alloc, mode_text(k), mode_text(l))?),
+        Said::Modes(k, l) => Ok(spaced(alloc, mode_word(k), mode_word(l))?),
         Said::Name(op) => Ok(Text::of(alloc, own_name(op))?),
     }
 }

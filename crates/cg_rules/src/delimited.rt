@@ -1,22 +1,10 @@
 ghost use Rattle.std.specs.Prelude.{◌≡◌};
 ghost use Rattle.cg_base.specs.Refusing.{first};
+ghost use Rattle.cg_base.specs.Characters.{is_in_word, is_in_sum};
 ghost use Rattle.cg_model.specs.faults.E312 as spec;
 
+use cg_base::{is_in_word, is_in_sum};
 use cg_model::{Machine, MachineFault, Operand, Piece, Said};
-
-/// Whether a slot whose hardware has words may have a character.
-fn is_in_word(byte: u8) -> bool
-    ensures { result ≡ spec.is_in_word byte }
-{
-    byte.is_ascii_alphanumeric() || byte == b'_' || byte == b'.' || byte == b'%' || byte == b'$'
-}
-
-/// Whether any other slot may have a character.
-fn is_in_sum(byte: u8) -> bool
-    ensures { result ≡ spec.is_in_sum byte }
-{
-    byte.is_ascii_alphanumeric() || byte == b'_' || byte == b'.' || byte == b'+' || byte == b'-'
-}
 
 /// Whether the hardware of an operand has words.
 fn has_words(machine: &Machine, operand: &Operand) -> bool

@@ -3,7 +3,7 @@ use Rattle.std.proofs.Common.{◌≡◌, ℕ, zero, suc, ◌+◌, ◌<◌, Bool,
 use Rattle.std.specs.List.{list_all}
 use Rattle.std.proofs.lemmas.Bool.{false≢true, eqb-true, eq-eqb}
 use Rattle.std.proofs.lemmas.Bool.Decides.{nat_tests}
-use Rattle.cg_base.specs.Modes.{bits_of}
+use Rattle.cg_base.specs.Modes.{bits_of, mode_place}
 use Rattle.cg_base.specs.declared.mode.Mode.{Mode}
 use Rattle.cg_base.specs.declared.mode.Mode.TheVariants as mode
 use Rattle.cg_model.specs.Operators.{at_number}
@@ -19,7 +19,7 @@ use Rattle.cg_model.specs.declared.rtl.Rtl.{Rtl, roll-Rtl, Rtl-F, map-Rtl, fold-
 use Rattle.cg_model.specs.faults.E306.{Nameable, Within, count_of, is_below, unnamed_at, declared_by, each_within, unnamed_step, unnamed_in, stray_at, names}
 use Rattle.cg_model.specs.faults.E315.{is_impure, is_ruled, names_field, names_other, names_ruled, may_not_name, impure_at}
 use Rattle.cg_model.specs.faults.Finding.{Faults, AtNode, of_each, node_step, in_nodes, stands_in}
-use Rattle.cg_model.specs.faults.Judging.{has_value, has_index, has_new_value, outside_at, mode_place, has_other, other_at}
+use Rattle.cg_model.specs.faults.Judging.{has_value, has_index, has_new_value, outside_at, has_other, other_at}
 use Rattle.cg_sound.proofs.Clear.{front_none, back_none, test_false, not_true}
 
 -- the faults of an expression that is written out

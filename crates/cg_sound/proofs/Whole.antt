@@ -3,7 +3,7 @@ use Rattle.std.proofs.Common.{◌≡◌, ℕ, ◌≤◌, Bool, true, not, ◌||�
 use Rattle.std.specs.List.{list_all}
 use Rattle.cg_model.specs.Covers.{AreInWords}
 use Rattle.cg_model.specs.Formed.{IsFormed, has_bits, is_field, is_multi, is_address, same_mode, are_words, is_formed_where, is_hardware}
-use Rattle.cg_model.specs.Operators.{address_mode}
+use Rattle.cg_base.specs.Modes.{address_mode}
 use Rattle.cg_model.specs.Placed.{is_register}
 use Rattle.cg_model.specs.Sound.{IsSound, SoundField, SoundHardware}
 use Rattle.cg_model.specs.declared.field.Field.{Field}

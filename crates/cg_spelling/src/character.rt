@@ -3,8 +3,10 @@
 ghost use Rattle.std.specs.Prelude.{◌≡◌, ◌&&◌, not};
 ghost use Rattle.std.specs.List.{list_all};
 ghost use Rattle.cg_model.specs.Spelling as spec;
+ghost use Rattle.cg_base.specs.Characters.{is_in_word, is_in_sum};
 ghost use Rattle.cg_model.specs.faults.E312 as runs;
 
+use cg_base::{is_in_word, is_in_sum};
 use cg_model::{Machine, Operand};
 
 /// The small letter of a letter. All else stays.
@@ -15,20 +17,6 @@ pub fn lower(byte: u8) -> u8
         b'A'..=b'Z' => byte + 32,
         _ => byte,
     }
-}
-
-/// Whether a slot whose hardware has words may have a character.
-fn is_in_word(byte: u8) -> bool
-    ensures { result ≡ runs.is_in_word byte }
-{
-    byte.is_ascii_alphanumeric() || byte == b'_' || byte == b'.' || byte == b'%' || byte == b'$'
-}
-
-/// Whether any other slot may have a character.
-fn is_in_sum(byte: u8) -> bool
-    ensures { result ≡ runs.is_in_sum byte }
-{
-    byte.is_ascii_alphanumeric() || byte == b'_' || byte == b'.' || byte == b'+' || byte == b'-'
 }
 
 /// Whether the hardware of an operand has words.

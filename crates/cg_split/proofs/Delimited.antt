@@ -13,7 +13,8 @@ use Rattle.cg_model.specs.declared.operand.Operand.{Operand}
 use Rattle.cg_model.specs.declared.written.Mark.{Mark}
 use Rattle.cg_model.specs.declared.written.Mark.TheVariants.{Byte, Slot}
 use Rattle.cg_model.specs.faults.E312 as spec
-use Rattle.cg_model.specs.faults.E312.{is_alphanumeric, is_in_word, is_in_sum, has_words, may_have, undelimited_at, undelimited_piece, undelimited_from, undelimited}
+use Rattle.cg_model.specs.faults.E312.{has_words, may_have, undelimited_at, undelimited_piece, undelimited_from, undelimited}
+use Rattle.cg_base.specs.Characters.{is_alphanumeric, is_in_word, is_in_sum}
 use Rattle.cg_model.specs.faults.Finding.{Faults, where_so, at_place}
 use Rattle.cg_model.specs.declared.fault.Said.TheVariants.{Own}
 use Rattle.cg_model.specs.declared.fault.Said.TheVariants as said

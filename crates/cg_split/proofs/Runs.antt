@@ -10,7 +10,8 @@ use Rattle.cg_model.specs.Spelling.{lower}
 use Rattle.cg_model.specs.Squeezing.{begins}
 use Rattle.cg_model.specs.declared.machine.Machine.{Machine}
 use Rattle.cg_model.specs.declared.operand.Operand.{Operand}
-use Rattle.cg_model.specs.faults.E312.{is_in_word, is_in_sum, has_words, may_have}
+use Rattle.cg_model.specs.faults.E312.{has_words, may_have}
+use Rattle.cg_base.specs.Characters.{is_in_word, is_in_sum}
 
 -- A run ends where a text begins that goes on with other characters.
 pub run_ends : (test : ℕ → Bool) (w text : List ℕ) → list_all test w ≡ true → begins test text ≡ false → prefix_len test (w ++ text) ≡ length w

@@ -4,9 +4,8 @@ use Rattle.std.specs.Option.{option_or, unwrap_or}
 use Rattle.std.proofs.lemmas.Grind.{common_steps}
 use Rattle.std.proofs.lemmas.Bool.Decides.{nat_tests}
 use Rattle.cg_base.specs.declared.Mode.{Mode}
-use Rattle.cg_base.specs.Modes.{bits_of}
+use Rattle.cg_base.specs.Modes.{bits_of, word_mode}
 use Rattle.cg_model.specs.Checked.{Checked, Verdict, and_then, checked, mode_in, judged_value, verdict_of, is_loose, leading, leading_choice, plain_choice, value_turn, choices, meets, agrees, fits, fault, disagreement, in_range, same_bits}
-use Rattle.cg_model.specs.Operators.{word_mode}
 use Rattle.cg_model.specs.Pure.{Around, pure_meaning, pure_gives, pure_value}
 use Rattle.cg_model.specs.Values.{operand_gives, lead}
 use Rattle.cg_model.specs.declared.machine.Machine.{Machine}

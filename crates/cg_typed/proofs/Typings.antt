@@ -10,10 +10,10 @@ use Rattle.cg_model.specs.declared.judged.Kind.TheVariants.{Arithmetic, Shift, C
 use Rattle.cg_typed.proofs.Bounds.{shift_counts}
 use Rattle.cg_base.specs.declared.UnaryOp.{UnaryOp}
 use Rattle.cg_base.specs.declared.UnaryOp.TheVariants.{Neg, Inv, Not, Abs}
-use Rattle.cg_base.specs.Modes.{bits_of}
+use Rattle.cg_base.specs.Modes.{bits_of, word_mode}
 use Rattle.cg_base.specs.Operations.{unary_value, wrapped}
 use Rattle.cg_model.specs.Checked.{Verdict, and_then, valued, checked, given, leading, mode_in, unary_mode, judged_any, operand, verdict_of, any_mode, number_mode, fits, fault, in_range, is_loose, is_number, is_none, agrees, kind_mode, each_operand, stated, wider, narrower}
-use Rattle.cg_model.specs.Operators.{at_number, unary_ops, binary_ops, word_mode, kind_of}
+use Rattle.cg_model.specs.Operators.{at_number, unary_ops, binary_ops, kind_of}
 use Rattle.cg_model.specs.Pure.{Around, pure_meaning, pure_gives}
 use Rattle.cg_model.specs.Values.{Meaning, at_once, mode_or_void, any_gives, operand_gives, unary_gives, kind_gives, binary_answer, extended_to, cut_to, lead, any_of, mode_at}
 use Rattle.cg_model.specs.declared.machine.Machine.{Machine}

@@ -3,8 +3,7 @@ use Rattle.std.specs.Prelude.{ℕ, ◌^◌, Bool, true, ◌&&◌, nat_lt, List, 
 use Rattle.std.specs.Option.{unwrap_or}
 use Rattle.cg_base.specs.declared.Mode.{Mode}
 use Rattle.cg_base.specs.declared.Mode.TheVariants.{Void}
-use Rattle.cg_base.specs.Modes.{bits_of}
-use Rattle.cg_model.specs.Operators.{address_mode}
+use Rattle.cg_base.specs.Modes.{bits_of, address_mode}
 use Rattle.cg_model.specs.Pure.{Around}
 use Rattle.cg_model.specs.Sound.{Allowed, is_allowed}
 use Rattle.cg_model.specs.declared.machine.Machine.{Machine}

@@ -1,27 +1,11 @@
 //! What one expression is answered.
 
 use crate::machine::scope_of;
-use cg_base::{Form, Mode, NoMemory, Stop, Text, Top, decimal};
+use cg_base::{Form, Mode, NoMemory, Stop, Text, Top, decimal, mode_word};
 use cg_model::Machine;
 use cg_modes::{ModeFault, mode_of};
 use cg_names::{Rule, resolve};
 use std::alloc::Global;
-
-/// The word of a mode.
-fn word_of(mode: Mode) -> &'static [u8] {
-    match mode {
-        Mode::Bi => b"BI",
-        Mode::Qi => b"QI",
-        Mode::Hi => b"HI",
-        Mode::Si => b"SI",
-        Mode::Di => b"DI",
-        Mode::Uqi => b"UQI",
-        Mode::Uhi => b"UHI",
-        Mode::Usi => b"USI",
-        Mode::Udi => b"UDI",
-        Mode::Void => b"VOID",
-    }
-}
 
 /// The mode that is wanted.
 fn wanted(word: &[u8]) -> Option<Mode> {
@@ -60,7 +44,7 @@ fn rule_of(alloc: Global, word: &[u8]) -> Result<Rule, NoMemory> {
 fn put_mode(mode: Option<Mode>, printed: &mut Text) -> Result<(), NoMemory> {
     if let Some(mode) = mode {
         printed.push(b' ')?;
-        printed.append(word_of(mode))?;
+        printed.append(mode_word(mode))?;
     }
     Ok(())
 }

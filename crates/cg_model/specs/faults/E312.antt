@@ -1,6 +1,7 @@
 -- E312: a slot is not delimited: it stands neither at the end of its syntax nor in front of a character that its text can't have.
 -- Then one text could be split in two ways.
-use Rattle.std.specs.Prelude.{ℕ, suc, Bool, true, false, ◌&&◌, ◌||◌, ◌==◌, nat_le, if◌then◌else◌, is_some, List, [], ◌∷◌, ◌++◌, Some, None, slice_get}
+use Rattle.std.specs.Prelude.{ℕ, suc, Bool, true, false, if◌then◌else◌, is_some, List, [], ◌∷◌, ◌++◌, Some, None, slice_get}
+use Rattle.cg_base.specs.Characters.{is_in_word, is_in_sum}
 use Rattle.cg_model.specs.faults.Finding.{Faults, at_place, where_so}
 use Rattle.cg_model.specs.declared.fault.Said.TheVariants.{Own}
 use Rattle.cg_model.specs.declared.fault.Said.TheVariants as said
@@ -8,18 +9,6 @@ use Rattle.cg_model.specs.declared.operand.Operand.{Operand}
 use Rattle.cg_model.specs.declared.insn.Piece.{Piece}
 use Rattle.cg_model.specs.declared.insn.Piece.TheVariants.{Literal, Slot}
 use Rattle.cg_model.specs.declared.machine.Machine.{Machine}
-
--- Letters and digits.
-abbrev pub is_alphanumeric : ℕ → Bool
-is_alphanumeric b = (nat_le 48 b && nat_le b 57) || (nat_le 65 b && nat_le b 90) || (nat_le 97 b && nat_le b 122)
-
--- A slot whose hardware has words is written by one of them: a run of letters, digits and `_ . % $`.
-abbrev pub is_in_word : ℕ → Bool
-is_in_word b = is_alphanumeric b || b == 95 || b == 46 || b == 37 || b == 36
-
--- Every other slot is written by a sum: a run of letters, digits and `_ . + -`.
-abbrev pub is_in_sum : ℕ → Bool
-is_in_sum b = is_alphanumeric b || b == 95 || b == 46 || b == 43 || b == 45
 
 -- The hardware of an operand has words.
 abbrev pub has_words : Machine → Operand → Bool

@@ -3,7 +3,7 @@
 use Rattle.std.specs.Prelude.{ℕ, Bool, true, false, not, ◌==◌, List, [], ◌∷◌, ◌++◌, Option, Some, None, Ok, Err, if◌then◌else◌}
 use Rattle.cg_base.specs.declared.mode.Mode.{Mode}
 use Rattle.cg_base.specs.declared.mode.Mode.TheVariants as mode
-use Rattle.cg_base.specs.Modes.{bits_of}
+use Rattle.cg_base.specs.Modes.{bits_of, mode_place}
 use Rattle.cg_model.specs.Checked.{Verdict, mode_of}
 use Rattle.cg_model.specs.faults.Finding.{Faults, at_place, where_so, AtNode, in_nodes}
 use Rattle.cg_model.specs.declared.fault.MachineFault.{MachineFault}
@@ -51,19 +51,6 @@ outside_at p _ mode n = []
 
 abbrev pub outside_rules : Purpose → Rtl → Faults
 outside_rules p rtl = in_nodes (outside_at p) rtl
-
--- The place of a mode among all modes.
-abbrev pub mode_place : Mode → ℕ
-mode_place mode.Bi = 0
-mode_place mode.Qi = 1
-mode_place mode.Hi = 2
-mode_place mode.Si = 3
-mode_place mode.Di = 4
-mode_place mode.Uqi = 5
-mode_place mode.Uhi = 6
-mode_place mode.Usi = 7
-mode_place mode.Udi = 8
-mode_place mode.Void = 9
 
 -- A value or a new value stands in another mode than its own.
 abbrev pub has_other : Option Mode → Option Mode → Bool

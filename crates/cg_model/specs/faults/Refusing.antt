@@ -23,19 +23,6 @@ use Rattle.cg_model.specs.declared.operand.Operand.{Operand}
 use Rattle.cg_model.specs.declared.rtl.Op.{Op}
 use Rattle.cg_model.specs.declared.rtl.Op.TheVariants as op
 
--- The words for modes: of two that are one mode, the one without the cpu's word.
-abbrev pub mode_text : Mode → List ℕ
-mode_text mode.Bi = codes "BI"
-mode_text mode.Qi = codes "QI"
-mode_text mode.Hi = codes "HI"
-mode_text mode.Si = codes "SI"
-mode_text mode.Di = codes "DI"
-mode_text mode.Uqi = codes "UQI"
-mode_text mode.Uhi = codes "UHI"
-mode_text mode.Usi = codes "USI"
-mode_text mode.Udi = codes "UDI"
-mode_text mode.Void = codes "VOID"
-
 -- By which name a rule names its value, its index and its new value.
 abbrev pub own_name : Op → List ℕ
 own_name op.Value = codes "value"
@@ -65,7 +52,7 @@ said_text m own (said.Hardware k) = name_where (λ h. h.name) (slice_get m.hardw
 said_text m own (said.Operand k) = name_where (λ o. o.name) (slice_get m.operands k)
 said_text m own (said.Count n) = signed_decimal (pos n)
 said_text m own (said.Number n) = signed_decimal n
-said_text m own (said.Modes k l) = spaced (mode_text k) (mode_text l)
+said_text m own (said.Modes k l) = spaced (mode_word k) (mode_word l)
 said_text m own (said.Name o) = own_name o
 
 -- An element's name, and what is wrong with it.

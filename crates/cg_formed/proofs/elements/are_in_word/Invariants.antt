@@ -1,6 +1,6 @@
 use Rattle.std.proofs.Common.{◌≡◌, drop}
 use Rattle.std.specs.List.{list_all}
-use Rattle.cg_model.specs.faults.E312.{is_in_word}
+use Rattle.cg_base.specs.Characters.{is_in_word}
 use Rattle.cg_formed.proofs.elements.are_in_word.Given as goal
 
 abbrev pub invariant-loop-byte : goal.invariant-loop-byte
