@@ -7,7 +7,7 @@ use Rattle.cg_base.specs.declared.refusal.Stop.TheVariants.{Refused, NoMemory}
 use Rattle.std.proofs.lemmas.Bool.{false≢true}
 use Rattle.cg_base.specs.declared.refusal.Refusal.{Refusal}
 use Rattle.cg_model.specs.Clashing.{NoClash, FirstClash, FirstClashIn}
-use Rattle.cg_model.specs.faults.Refusing.{Refuses, by_element, by_clash, IsFaultless, first_refusal, clash_refusal}
+use Rattle.cg_model_faults.specs.Refusing.{Refuses, by_element, by_clash, IsFaultless, first_refusal, clash_refusal}
 use Rattle.cg_model.specs.declared.machine.Machine.{Machine}
 use Rattle.std.proofs.lemmas.Grind.{common_steps}
 

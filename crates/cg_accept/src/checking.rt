@@ -1,7 +1,7 @@
 ghost use Rattle.std.specs.Prelude.{◌≡◌, None, ⊤};
 ghost use Rattle.cg_base.specs.Answering.{Answered};
 ghost use Rattle.cg_model.specs.Formed.{IsFormed};
-ghost use Rattle.cg_model.specs.faults.Refusing as spec;
+ghost use Rattle.cg_model_faults.specs.Refusing as spec;
 
 use crate::clash::clash_refusal;
 use cg_ambig::first_clash;

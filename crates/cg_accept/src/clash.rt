@@ -1,6 +1,6 @@
 ghost use Rattle.std.specs.Prelude.{◌≡◌, ◌<◌, take, IfOk};
 ghost use Rattle.std.specs.Char.{digit_char};
-ghost use Rattle.cg_model.specs.faults.Refusing as spec;
+ghost use Rattle.cg_model_faults.specs.Refusing as spec;
 
 use cg_base::{NoMemory, Refusal, Text};
 use cg_model::{Clash, Machine};

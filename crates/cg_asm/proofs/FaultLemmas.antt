@@ -10,20 +10,20 @@ use Rattle.cg_content.specs.Telling.{told_order, width_for, width_bytes, told_co
 use Rattle.cg_content.specs.declared.order.Width.{Width}
 use Rattle.cg_base.specs.Numerals.{hex_text}
 use Rattle.cg_base.specs.declared.refusal.Refusal.{Refusal}
-use Rattle.cg_model.specs.Bundling.{BundlePart}
-use Rattle.cg_model.specs.Choosing.{SourceFault, alone, known}
-use Rattle.cg_model.specs.Imaging.{reading_faults}
-use Rattle.cg_model.specs.Sourcing.{Order, data_of, text, space, origin, align, in_set, malformed, Content, order, parts, only_set, all_keywords, Label, Place, Reading, line_size, address_of}
-use Rattle.cg_model.specs.Spelling.{keywords, is_keyword}
+use Rattle.cg_model_source.specs.Bundling.{BundlePart}
+use Rattle.cg_model_source.specs.Choosing.{SourceFault, alone, known}
+use Rattle.cg_model_source.specs.Imaging.{reading_faults}
+use Rattle.cg_model_source.specs.Sourcing.{Order, data_of, text, space, origin, align, in_set, malformed, Content, order, parts, only_set, all_keywords, Label, Place, Reading, line_size, address_of}
+use Rattle.cg_model_source.specs.Spelling.{keywords, is_keyword}
 use Rattle.cg_model.specs.declared.machine.Machine.{Machine}
-use Rattle.cg_model.specs.declared.written.Sum.{Sum}
-use Rattle.cg_model.specs.source.E601.{unknown_texts, unknown_parts}
-use Rattle.cg_model.specs.source.E602.{unfit_sum, unfit_sums, unfit_texts, unfit_parts}
-use Rattle.cg_model.specs.source.E603.{taken_label}
-use Rattle.cg_model.specs.source.E606.{below_address}
-use Rattle.cg_model.specs.source.E607.{too_large}
-use Rattle.cg_model.specs.source.E608.{malformed_content, empty_parts}
-use Rattle.cg_model.specs.source.E609.{too_wide_content, too_wide}
+use Rattle.cg_model_source.specs.declared.written.Sum.{Sum}
+use Rattle.cg_model_source.specs.E601.{unknown_texts, unknown_parts}
+use Rattle.cg_model_source.specs.E602.{unfit_sum, unfit_sums, unfit_texts, unfit_parts}
+use Rattle.cg_model_source.specs.E603.{taken_label}
+use Rattle.cg_model_source.specs.E606.{below_address}
+use Rattle.cg_model_source.specs.E607.{too_large}
+use Rattle.cg_model_source.specs.E608.{malformed_content, empty_parts}
+use Rattle.cg_model_source.specs.E609.{too_wide_content, too_wide}
 use Rattle.cg_spelling.specs.Lowered.{SameKeywords}
 use Rattle.cg_syntax.proofs.FaultLemmas.{first_of_both, refused_told, empty_told, wide_told, or_again}
 use Rattle.cg_syntax.specs.Faulting.{said_alone, where_empty}

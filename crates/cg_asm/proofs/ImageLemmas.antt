@@ -17,17 +17,17 @@ use Rattle.cg_base.specs.declared.refusal.Refusal.{Refusal}
 use Rattle.cg_choosing.proofs.FrontLemmas.{same_some, none_is_none}
 use Rattle.cg_choosing.specs.Indexing.{GivesAll}
 use Rattle.cg_choosing.specs.Trying.{fault_refusal}
-use Rattle.cg_model.specs.Bundling.{parts_at}
-use Rattle.cg_model.specs.Choosing.{SourceFault}
-use Rattle.cg_model.specs.Imaging as imaging
-use Rattle.cg_model.specs.Imaging.{SourceRefusal, line_fault, Layout as SpecLayout, laid, laid_before, unless_refused as unless_line_refused, layout_from, laid_faults, items_bytes, in_front, unless_unfit, joined, image_of, start, image_from, image}
-use Rattle.cg_model.specs.Lining.{Statement, nothing, directive, bundle, read_line, parted_at}
+use Rattle.cg_model_source.specs.Bundling.{parts_at}
+use Rattle.cg_model_source.specs.Choosing.{SourceFault}
+use Rattle.cg_model_source.specs.Imaging as imaging
+use Rattle.cg_model_source.specs.Imaging.{SourceRefusal, line_fault, Layout as SpecLayout, laid, laid_before, unless_refused as unless_line_refused, layout_from, laid_faults, items_bytes, in_front, unless_unfit, joined, image_of, start, image_from, image}
+use Rattle.cg_model_source.specs.Lining.{Statement, nothing, directive, bundle, read_line, parted_at}
 use Rattle.cg_model.specs.Sound.{IsSound}
-use Rattle.cg_model.specs.Sourcing.{Content, content_of, reading, reading_of, items_of, only_set, all_keywords, Label, Place, place_after, labels_with, line_size}
+use Rattle.cg_model_source.specs.Sourcing.{Content, content_of, reading, reading_of, items_of, only_set, all_keywords, Label, Place, place_after, labels_with, line_size}
 use Rattle.cg_model.specs.declared.machine.Machine.{Machine}
-use Rattle.cg_model.specs.source.E604.{undefined_items}
-use Rattle.cg_model.specs.source.E605.{unfit_items}
-use Rattle.cg_model.specs.source.E607.{too_large}
+use Rattle.cg_model_source.specs.E604.{undefined_items}
+use Rattle.cg_model_source.specs.E605.{unfit_items}
+use Rattle.cg_model_source.specs.E607.{too_large}
 use Rattle.cg_syntax.proofs.FaultLemmas.{first_of_both}
 use Rattle.cg_syntax.proofs.StatingLemmas.{parts_within}
 use Rattle.cg_syntax.specs.Telling.{told_parts}

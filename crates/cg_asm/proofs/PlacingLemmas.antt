@@ -20,16 +20,16 @@ use Rattle.cg_choosing.proofs.FrontLemmas.{none_is_none}
 use Rattle.cg_choosing.specs.Indexing.{IsIndex, GivesAll}
 use Rattle.cg_choosing.specs.declared.index.Index.{Index}
 use Rattle.cg_choosing.specs.Trying.{fault_refusal}
-use Rattle.cg_model.specs.Choosing.{alone}
-use Rattle.cg_model.specs.Imaging.{reading_faults}
-use Rattle.cg_model.specs.Lining.{Line, Statement, is_readable, read_line}
+use Rattle.cg_model_source.specs.Choosing.{alone}
+use Rattle.cg_model_source.specs.Imaging.{reading_faults}
+use Rattle.cg_model_source.specs.Lining.{Line, Statement, is_readable, read_line}
 use Rattle.cg_model.specs.Sound.{is_word}
-use Rattle.cg_model.specs.Sourcing.{reading, reading_of, only_set, Label, address_of, labels_with, line_size}
-use Rattle.cg_model.specs.Spelling.{is_keyword}
+use Rattle.cg_model_source.specs.Sourcing.{reading, reading_of, only_set, Label, address_of, labels_with, line_size}
+use Rattle.cg_model_source.specs.Spelling.{is_keyword}
 use Rattle.cg_model.specs.declared.machine.Machine.{Machine}
-use Rattle.cg_model.specs.source.E603.{taken_label}
-use Rattle.cg_model.specs.source.E607.{too_large}
-use Rattle.cg_model.specs.source.E608.{malformed_line}
+use Rattle.cg_model_source.specs.E603.{taken_label}
+use Rattle.cg_model_source.specs.E607.{too_large}
+use Rattle.cg_model_source.specs.E608.{malformed_line}
 use Rattle.cg_syntax.specs.Faulting.{said_alone}
 
 -- A line that can be read.

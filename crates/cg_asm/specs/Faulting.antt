@@ -9,12 +9,12 @@ use Rattle.cg_content.specs.declared.order.Order.TheVariants.{Data, Origin, Malf
 use Rattle.cg_content.specs.declared.order.Width.{Width}
 use Rattle.cg_base.specs.Numerals.{hex_text}
 use Rattle.cg_base.specs.declared.refusal.Refusal.{Refusal}
-use Rattle.cg_model.specs.Choosing.{known}
-use Rattle.cg_model.specs.Sourcing.{Label}
+use Rattle.cg_model_source.specs.Choosing.{known}
+use Rattle.cg_model_source.specs.Sourcing.{Label}
 use Rattle.cg_model.specs.declared.machine.Machine.{Machine}
-use Rattle.cg_model.specs.declared.written.Sum.{Sum}
-use Rattle.cg_model.specs.source.E603.{taken_label}
-use Rattle.cg_model.specs.source.E607.{too_large}
+use Rattle.cg_model_source.specs.declared.written.Sum.{Sum}
+use Rattle.cg_model_source.specs.E603.{taken_label}
+use Rattle.cg_model_source.specs.E607.{too_large}
 use Rattle.cg_syntax.specs.Faulting.{said_alone, where_empty, where_wide}
 use Rattle.cg_syntax.specs.Telling.{first_refused}
 

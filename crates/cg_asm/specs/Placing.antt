@@ -11,9 +11,9 @@ use Rattle.cg_asm.specs.declared.assembling.AsmStop.TheVariants as stop
 use Rattle.cg_asm.specs.declared.assembling.SourceRefusal as declared
 use Rattle.cg_base.specs.declared.refusal.Refusal.{Refusal}
 use Rattle.cg_choosing.specs.Trying.{fault_refusal}
-use Rattle.cg_model.specs.Imaging.{SourceRefusal, reading_faults, line_fault}
-use Rattle.cg_model.specs.Lining.{Line}
-use Rattle.cg_model.specs.Sourcing.{Place, Reading, reading, reading_of, only_set, labels_with, line_size}
+use Rattle.cg_model_source.specs.Imaging.{SourceRefusal, reading_faults, line_fault}
+use Rattle.cg_model_source.specs.Lining.{Line}
+use Rattle.cg_model_source.specs.Sourcing.{Place, Reading, reading, reading_of, only_set, labels_with, line_size}
 use Rattle.cg_model.specs.declared.machine.Machine.{Machine}
 use Rattle.std.specs.Option.{option_map}
 

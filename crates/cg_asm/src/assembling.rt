@@ -4,9 +4,9 @@ ghost use Rattle.std.specs.Prelude.{◌≡◌, Ok, Err};
 ghost use Rattle.cg_asm.specs.Placing.{AnswersSource, seen_refusal, told_image, told_refusal};
 ghost use Rattle.cg_base.specs.Answering.{Answered};
 ghost use Rattle.cg_choosing.specs.Indexing.{IsIndex, GivesAll};
-ghost use Rattle.cg_model.specs.Imaging.{image};
+ghost use Rattle.cg_model_source.specs.Imaging.{image};
 ghost use Rattle.cg_model.specs.Sound.{IsSound};
-ghost use Rattle.cg_model.specs.Sourcing.{only_set};
+ghost use Rattle.cg_model_source.specs.Sourcing.{only_set};
 ghost use Rattle.cg_syntax.specs.Laying.{HasBundleBit};
 
 use crate::faults::size_fault;

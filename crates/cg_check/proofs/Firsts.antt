@@ -3,10 +3,10 @@ use Rattle.std.proofs.Common.{append_assoc, ◌≡◌, ℕ, suc, ◌+◌, map, L
 use Rattle.std.specs.Option.{option_or}
 use Rattle.std.proofs.lemmas.Grind.{common_steps}
 use Rattle.cg_base.specs.Refusing.{first}
-use Rattle.cg_model.specs.declared.fault.MachineFault.{MachineFault}
+use Rattle.cg_model_faults.specs.declared.fault.MachineFault.{MachineFault}
 use Rattle.cg_model.specs.declared.rtl.Rtl.{Rtl, out-Rtl, fold_out-Rtl}
-use Rattle.cg_model.specs.faults.Finding.{Faults, where_none}
-use Rattle.cg_model.specs.faults.E308.{sum_of, nodes_step, nodes}
+use Rattle.cg_model_faults.specs.Finding.{Faults, where_none}
+use Rattle.cg_model_faults.specs.E308.{sum_of, nodes_step, nodes}
 
 pub first_append : {A : Type 0} (xs ys : List A) → first (xs ++ ys) ≡ option_or (first xs) (first ys)
 first_append [] ys = refl

@@ -4,9 +4,9 @@ use Rattle.std.proofs.lemmas.Grind.{common_steps}
 use Rattle.std.proofs.lemmas.List.{drop_all}
 use Rattle.cg_base.specs.declared.mode.Mode.{Mode}
 use Rattle.cg_model.specs.declared.rtl.Rtl.{Rtl}
-use Rattle.cg_model.specs.faults.Elements.{inserts_judged}
+use Rattle.cg_model_faults.specs.Elements.{inserts_judged}
 use Rattle.cg_model.specs.declared.machine.Machine.{Machine}
-use Rattle.cg_model.specs.faults.Judging.{Judged, outside_rules, mode_faults, all_outside, all_modes}
+use Rattle.cg_model_faults.specs.Judging.{Judged, outside_rules, mode_faults, all_outside, all_modes}
 use Rattle.cg_check.proofs.Firsts.{first_append}
 
 pub outside_append : (xs ys : List Judged) → all_outside (xs ++ ys) ≡ all_outside xs ++ all_outside ys

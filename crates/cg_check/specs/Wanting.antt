@@ -3,14 +3,14 @@ use Rattle.std.specs.Prelude.{ℕ, ◌==◌, if◌then◌else◌, List, [], ◌�
 use Rattle.cg_base.specs.Modes.{bits_of}
 use Rattle.cg_base.specs.declared.mode.Mode.{Mode}
 use Rattle.cg_check.specs.declared.moded.Wanted.{Wanted}
-use Rattle.cg_model.specs.faults.Elements as elements
-use Rattle.cg_model.specs.faults.Finding.{Faults, at_place}
-use Rattle.cg_model.specs.faults.Judging.{Judged, is_free, disagrees}
-use Rattle.cg_model.specs.declared.fault.Purpose.TheVariants as purpose
-use Rattle.cg_model.specs.declared.fault.Said.TheVariants as said
-use Rattle.cg_model.specs.faults.E306.{in_hardware}
-use Rattle.cg_model.specs.faults.E308 as e308
-use Rattle.cg_model.specs.faults.E314.{circular}
+use Rattle.cg_model_faults.specs.Elements as elements
+use Rattle.cg_model_faults.specs.Finding.{Faults, at_place}
+use Rattle.cg_model_faults.specs.Judging.{Judged, is_free, disagrees}
+use Rattle.cg_model_faults.specs.declared.fault.Purpose.TheVariants as purpose
+use Rattle.cg_model_faults.specs.declared.fault.Said.TheVariants as said
+use Rattle.cg_model_faults.specs.E306.{in_hardware}
+use Rattle.cg_model_faults.specs.E308 as e308
+use Rattle.cg_model_faults.specs.E314.{circular}
 use Rattle.cg_model.specs.declared.hardware.Hardware.{Hardware}
 use Rattle.cg_model.specs.declared.machine.Machine.{Machine}
 use Rattle.cg_model.specs.declared.rtl.Rtl.{Rtl}

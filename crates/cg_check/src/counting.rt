@@ -1,5 +1,5 @@
 ghost use Rattle.std.specs.Prelude.{◌≡◌, ◌+◌, IfOk};
-ghost use Rattle.cg_model.specs.faults.E308 as spec;
+ghost use Rattle.cg_model_faults.specs.E308 as spec;
 
 use cg_base::NoMemory;
 use cg_model::{Field, Hardware, Insn, Multi, Rtl};

@@ -1,9 +1,9 @@
 ghost use Rattle.std.specs.Prelude.{◌≡◌, ◌+◌, suc, IfOk};
 ghost use Rattle.cg_base.specs.Refusing.{first};
-ghost use Rattle.cg_model.specs.faults.E308 as e308;
-ghost use Rattle.cg_model.specs.faults.E313.{slot_operands};
-ghost use Rattle.cg_model.specs.faults.E306.{in_hardware};
-ghost use Rattle.cg_model.specs.faults.Elements as spec;
+ghost use Rattle.cg_model_faults.specs.E308 as e308;
+ghost use Rattle.cg_model_faults.specs.E313.{slot_operands};
+ghost use Rattle.cg_model_faults.specs.E306.{in_hardware};
+ghost use Rattle.cg_model_faults.specs.Elements as spec;
 ghost use Rattle.cg_check.specs.Wanting.{hardware_rest};
 
 use crate::counting::{add, field_nodes, hardware_nodes, insn_nodes, multi_nodes};
@@ -14,9 +14,8 @@ use crate::expressions::{
 use crate::texts::{first_long_literal, first_long_of_all, first_long_text, first_long_word};
 use cg_base::NoMemory;
 use cg_purity::{first_circular, Standing, first_no_register, first_unnamed};
-use cg_model::{
-    Field, Hardware, Insn, Machine, MachineFault, MacroInsn, Multi, Operand, Part, Purpose, Rtl,
-};
+use cg_model::{Field, Hardware, Insn, Machine, MacroInsn, Multi, Operand, Part, Rtl};
+use cg_model_faults::{MachineFault, Purpose};
 use cg_rules::{
     first_bundled, first_long_insn, first_long_syntax, first_misplaced, first_no_bundle,
     first_no_bundle_bit, first_no_emitted, first_no_sub, first_of_too_many_insns, first_overlap,

@@ -1,10 +1,11 @@
 ghost use Rattle.std.specs.Prelude.{◌≡◌, IfOk, []};
 ghost use Rattle.cg_base.specs.Refusing.{first};
-ghost use Rattle.cg_model.specs.faults.Elements as spec;
+ghost use Rattle.cg_model_faults.specs.Elements as spec;
 ghost use Rattle.cg_purity.specs.Named.{nameable};
 
 use cg_base::NoMemory;
-use cg_model::{Machine, MachineFault, Purpose, Rtl};
+use cg_model::{Machine, Rtl};
+use cg_model_faults::{MachineFault, Purpose};
 use cg_purity::{Standing, first_impure, first_no_cell, first_stray, first_unnamed};
 
 /// What a rule finds, or want of memory.

@@ -1,13 +1,12 @@
 ghost use Rattle.std.specs.Prelude.{◌≡◌, ◌++◌};
 ghost use Rattle.cg_base.specs.Refusing.{first};
-ghost use Rattle.cg_model.specs.faults.Elements as spec;
-ghost use Rattle.cg_model.specs.faults.Judging as judging;
+ghost use Rattle.cg_model_faults.specs.Elements as spec;
+ghost use Rattle.cg_model_faults.specs.Judging as judging;
 ghost use Rattle.cg_check.specs.Wanting.{judged, judged_where, result_by, insert_wanted};
 
 use cg_base::{Mode, bits};
-use cg_model::{
-    Field, Hardware, Insn, Machine, MachineFault, ModeFault, Multi, Purpose, Rtl, Said,
-};
+use cg_model::{Field, Hardware, Insn, Machine, ModeFault, Multi, Rtl};
+use cg_model_faults::{MachineFault, Purpose, Said};
 use cg_modes::mode_of;
 use cg_purity::{first_other_mode, first_outside};
 
@@ -48,7 +47,7 @@ fn by_modes(fault: ModeFault) -> MachineFault
 }
 
 /// Whether the result of an expression may have any mode.
-#[tactic(auto, unfolding(cg_model::specs::faults::Judging::is_free))]
+#[tactic(auto, unfolding(cg_model_faults::specs::Judging::is_free))]
 fn is_free(purpose: Purpose) -> bool
     ensures { result ≡ judging.is_free purpose }
 {

@@ -1,9 +1,10 @@
 ghost use Rattle.std.specs.Prelude.{◌≡◌};
 ghost use Rattle.cg_base.specs.Refusing.{first};
-ghost use Rattle.cg_model.specs.faults.E308 as spec;
+ghost use Rattle.cg_model_faults.specs.E308 as spec;
 
 use cg_base::Text;
-use cg_model::{Keyword, MachineFault, NamedValue, Piece};
+use cg_model::{Keyword, NamedValue, Piece};
+use cg_model_faults::MachineFault;
 use cg_rules::first_passing;
 
 /// E308: over 4,194,304 bytes of a text.

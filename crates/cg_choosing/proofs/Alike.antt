@@ -1,17 +1,18 @@
 -- What is chosen depends on which texts are keywords, and not on how they are listed.
 use Rattle.std.specs.Prelude.{ℕ, suc, ◌==◌, if◌then◌else◌, List, [], ◌∷◌, ◌++◌, Option, Some, None, slice_get}
 use Rattle.std.proofs.Common.{◌≡◌, refl, ap, ◌∙◌}
-use Rattle.cg_model.specs.Choosing.{as_written, as_emitted, split_by_insn, split_by_macro, insns_splitting, macros_splitting, splitting, chosen_among, chosen}
-use Rattle.cg_model.specs.Spelling.{lower, spelled}
-use Rattle.cg_model.specs.Splitting.{Spelling, operand_at, run_of, behind_run, spelling_in_front, split}
-use Rattle.cg_model.specs.Squeezing.{squeezed, squeezed_syntax}
+use Rattle.cg_model_source.specs.Choosing.{as_written, as_emitted, split_by_insn, split_by_macro, insns_splitting, macros_splitting, splitting, chosen_among, chosen}
+use Rattle.cg_model_source.specs.Spelling.{spelled}
+use Rattle.cg_model.specs.Words.{lower}
+use Rattle.cg_model_source.specs.Splitting.{Spelling, operand_at, run_of, behind_run, spelling_in_front, split}
+use Rattle.cg_model_source.specs.Squeezing.{squeezed, squeezed_syntax}
 use Rattle.cg_model.specs.declared.insn.Insn.{Insn}
 use Rattle.cg_model.specs.declared.insn.MacroInsn.{MacroInsn}
 use Rattle.cg_model.specs.declared.machine.Machine.{Machine}
 use Rattle.cg_model.specs.declared.operand.Operand.{Operand}
-use Rattle.cg_model.specs.declared.written.Mark.{Mark}
-use Rattle.cg_model.specs.declared.written.Mark.TheVariants.{Byte, Slot}
-use Rattle.cg_model.specs.faults.E313.{slot_operands}
+use Rattle.cg_model_source.specs.declared.written.Mark.{Mark}
+use Rattle.cg_model_source.specs.declared.written.Mark.TheVariants.{Byte, Slot}
+use Rattle.cg_model_faults.specs.E313.{slot_operands}
 use Rattle.cg_spelling.specs.Laws.{SpellAlike}
 use Rattle.cg_spelling.specs.Lowered.{SameKeywords}
 use Rattle.cg_spelling.proofs.Alike.{alike}

@@ -4,14 +4,14 @@ use Rattle.std.specs.Result.{result_ok}
 use Rattle.std.proofs.Common.{◌≡◌, refl, ap, ◌∙◌, subst, arith}
 use Rattle.cg_choosing.proofs.FrontLemmas.{same_some, none_is_none}
 use Rattle.cg_choosing.specs.Indexing.{GivesAll}
-use Rattle.cg_model.specs.Choosing.{Choice, SourceFault, sums_from, given_sums, as_written, as_emitted, split_by_insn, split_by_macro, insns_splitting, macros_splitting, splitting, fits, chosen_of, unchosen, chosen}
-use Rattle.cg_model.specs.Splitting.{Spelling}
-use Rattle.cg_model.specs.Squeezing.{squeezed}
+use Rattle.cg_model_source.specs.Choosing.{Choice, SourceFault, sums_from, given_sums, as_written, as_emitted, split_by_insn, split_by_macro, insns_splitting, macros_splitting, splitting, fits, chosen_of, unchosen, chosen}
+use Rattle.cg_model_source.specs.Splitting.{Spelling}
+use Rattle.cg_model_source.specs.Squeezing.{squeezed}
 use Rattle.cg_model.specs.declared.insn.Given.{Given}
 use Rattle.cg_model.specs.declared.insn.Insn.{Insn}
 use Rattle.cg_model.specs.declared.insn.MacroInsn.{MacroInsn}
 use Rattle.cg_model.specs.declared.machine.Machine.{Machine}
-use Rattle.cg_model.specs.faults.E313.{slot_operands}
+use Rattle.cg_model_faults.specs.E313.{slot_operands}
 
 -- A choice of an instruction of the machine.
 pub record IsOf (m : Machine) (c : Choice) : Type 0 where

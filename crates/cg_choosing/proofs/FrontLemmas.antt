@@ -9,11 +9,11 @@ use Rattle.std.proofs.lemmas.List.{append-nil, drop_all}
 use Rattle.cg_fitting.proofs.Values.{drop_next}
 use Rattle.cg_base.specs.Texts.{same_text}
 use Rattle.cg_choosing.specs.Fronts.{text_front, front_of, may_split}
-use Rattle.cg_model.specs.Spelling.{lower}
-use Rattle.cg_model.specs.Splitting.{Spelling, split}
+use Rattle.cg_model.specs.Words.{lower}
+use Rattle.cg_model_source.specs.Splitting.{Spelling, split}
 use Rattle.cg_model.specs.declared.machine.Machine.{Machine}
-use Rattle.cg_model.specs.declared.written.Mark.{Mark}
-use Rattle.cg_model.specs.declared.written.Mark.TheVariants.{Byte, Slot}
+use Rattle.cg_model_source.specs.declared.written.Mark.{Mark}
+use Rattle.cg_model_source.specs.declared.written.Mark.TheVariants.{Byte, Slot}
 use Rattle.cg_split.specs.Passing.{filled}
 use Rattle.cg_split.specs.declared.splitting.Filled.{Filled}
 

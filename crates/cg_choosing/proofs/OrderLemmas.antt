@@ -5,11 +5,11 @@ use Rattle.std.proofs.lemmas.Option.{slice_get-get_or}
 use Rattle.cg_fitting.proofs.Values.{drop_next}
 use Rattle.cg_choosing.proofs.FrontLemmas.{same_some}
 use Rattle.cg_choosing.specs.Ordering.{filled_sum, filled_sums, given_one, given_all}
-use Rattle.cg_model.specs.Choosing.{sum_at, sums_from, given_sum, given_sums, known, known_all}
-use Rattle.cg_model.specs.Splitting.{Spelling}
+use Rattle.cg_model_source.specs.Choosing.{sum_at, sums_from, given_sum, given_sums, known, known_all}
+use Rattle.cg_model_source.specs.Splitting.{Spelling}
 use Rattle.cg_model.specs.declared.insn.Given.{Given}
 use Rattle.cg_model.specs.declared.insn.Given.TheVariants as given
-use Rattle.cg_model.specs.declared.written.Sum.{Sum}
+use Rattle.cg_model_source.specs.declared.written.Sum.{Sum}
 use Rattle.cg_split.specs.Passing.{filled}
 use Rattle.cg_split.specs.declared.splitting.Filled.{Filled}
 

@@ -16,14 +16,14 @@ use Rattle.cg_choosing.specs.declared.index.Pattern.{Pattern}
 use Rattle.cg_choosing.specs.declared.trying.Choice as declared
 use Rattle.cg_fitting.specs.Misfits.{said}
 use Rattle.cg_fitting.specs.declared.misfit.Misfit.{Misfit}
-use Rattle.cg_model.specs.Choosing.{Choice, Objection, SourceFault, as_written, as_emitted, split_by_insn, split_by_macro, insns_splitting, macros_splitting, splitting, choice_objection, objection, known_all, fits, unfit, unchosen, chosen_of, chosen}
-use Rattle.cg_model.specs.Spelling.{keywords}
-use Rattle.cg_model.specs.Splitting.{Spelling, split}
-use Rattle.cg_model.specs.Squeezing.{squeezed}
+use Rattle.cg_model_source.specs.Choosing.{Choice, Objection, SourceFault, as_written, as_emitted, split_by_insn, split_by_macro, insns_splitting, macros_splitting, splitting, choice_objection, objection, known_all, fits, unfit, unchosen, chosen_of, chosen}
+use Rattle.cg_model_source.specs.Spelling.{keywords}
+use Rattle.cg_model_source.specs.Splitting.{Spelling, split}
+use Rattle.cg_model_source.specs.Squeezing.{squeezed}
 use Rattle.cg_model.specs.declared.insn.Insn.{Insn}
 use Rattle.cg_model.specs.declared.insn.MacroInsn.{MacroInsn}
 use Rattle.cg_model.specs.declared.machine.Machine.{Machine}
-use Rattle.cg_model.specs.faults.E313.{slot_operands}
+use Rattle.cg_model_faults.specs.E313.{slot_operands}
 use Rattle.cg_split.specs.Passing.{filled}
 use Rattle.cg_split.specs.declared.splitting.Filled.{Filled}
 

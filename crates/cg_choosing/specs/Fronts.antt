@@ -2,9 +2,9 @@
 use Rattle.std.specs.Prelude.{ℕ, Bool, true, ◌==◌, if◌then◌else◌, List, [], ◌∷◌, Option, Some, None}
 use Rattle.std.specs.Option.{option_map}
 use Rattle.cg_base.specs.Texts.{same_text}
-use Rattle.cg_model.specs.Spelling.{lower}
-use Rattle.cg_model.specs.declared.written.Mark.{Mark}
-use Rattle.cg_model.specs.declared.written.Mark.TheVariants.{Byte, Slot}
+use Rattle.cg_model.specs.Words.{lower}
+use Rattle.cg_model_source.specs.declared.written.Mark.{Mark}
+use Rattle.cg_model_source.specs.declared.written.Mark.TheVariants.{Byte, Slot}
 
 abbrev pub text_front : List ℕ → List ℕ
 text_front [] = []

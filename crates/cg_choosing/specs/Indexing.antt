@@ -3,13 +3,13 @@ use Rattle.std.specs.Prelude.{◌≡◌, ℕ, List, [], ◌∷◌, length, Some,
 use Rattle.cg_choosing.specs.Fronts.{front_of}
 use Rattle.cg_choosing.specs.declared.index.Index.{Index}
 use Rattle.cg_choosing.specs.declared.index.Pattern.{Pattern}
-use Rattle.cg_model.specs.Spelling.{keywords}
-use Rattle.cg_model.specs.Squeezing.{squeezed_syntax}
+use Rattle.cg_model_source.specs.Spelling.{keywords}
+use Rattle.cg_model_source.specs.Squeezing.{squeezed_syntax}
 use Rattle.cg_model.specs.declared.insn.Insn.{Insn}
 use Rattle.cg_model.specs.declared.insn.MacroInsn.{MacroInsn}
 use Rattle.cg_model.specs.declared.insn.Piece.{Piece}
 use Rattle.cg_model.specs.declared.machine.Machine.{Machine}
-use Rattle.cg_model.specs.faults.E313.{slot_operands}
+use Rattle.cg_model_faults.specs.E313.{slot_operands}
 use Rattle.cg_spelling.specs.Lowered.{SameKeywords}
 
 -- A syntax whose slots have these operands.

@@ -1,9 +1,9 @@
 -- What slots are given, in the format's order.
 use Rattle.std.specs.Prelude.{ℕ, suc, ◌==◌, if◌then◌else◌, List, [], ◌∷◌, pos}
-use Rattle.cg_model.specs.Spelling.{just}
+use Rattle.cg_model_source.specs.Spelling.{just}
 use Rattle.cg_model.specs.declared.insn.Given.{Given}
 use Rattle.cg_model.specs.declared.insn.Given.TheVariants as given
-use Rattle.cg_model.specs.declared.written.Sum.{Sum}
+use Rattle.cg_model_source.specs.declared.written.Sum.{Sum}
 use Rattle.cg_split.specs.declared.splitting.Filled.{Filled}
 
 -- What is written in a slot.

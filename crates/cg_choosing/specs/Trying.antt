@@ -5,10 +5,10 @@ use Rattle.cg_base.specs.declared.refusal.Refusal.{Refusal}
 use Rattle.cg_choosing.specs.declared.trying.Choice as declared
 use Rattle.cg_fitting.specs.Misfits.{said, refused_for}
 use Rattle.cg_fitting.specs.declared.misfit.Misfit.{Misfit}
-use Rattle.cg_model.specs.Choosing.{Choice, Objection, SourceFault, choice_objection, as_written, as_emitted, split_by_insn, split_by_macro, insns_splitting, macros_splitting}
+use Rattle.cg_model_source.specs.Choosing.{Choice, Objection, SourceFault, choice_objection, as_written, as_emitted, split_by_insn, split_by_macro, insns_splitting, macros_splitting}
 use Rattle.cg_model.specs.declared.insn.Insn.{Insn}
 use Rattle.cg_model.specs.declared.machine.Machine.{Machine}
-use Rattle.cg_model.specs.faults.E313.{slot_operands}
+use Rattle.cg_model_faults.specs.E313.{slot_operands}
 
 -- What is chosen, by the number of the instruction.
 abbrev pub told_choice : Choice → declared.Choice

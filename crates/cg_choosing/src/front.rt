@@ -4,7 +4,7 @@ ghost use Rattle.std.specs.Prelude.{◌≡◌, IfOk};
 ghost use Rattle.cg_choosing.specs.Fronts as spec;
 
 use cg_base::{NoMemory, Text};
-use cg_model::Mark;
+use cg_model_source::Mark;
 use cg_spelling::lower;
 use std::alloc::Global;
 

@@ -2,11 +2,12 @@
 
 ghost use Rattle.std.specs.Prelude.{◌≡◌, IfOk};
 ghost use Rattle.cg_choosing.specs.Indexing.{IsIndex, pattern_of, insn_patterns, macro_patterns};
-ghost use Rattle.cg_model.specs.faults.E313.{slot_operands};
+ghost use Rattle.cg_model_faults.specs.E313.{slot_operands};
 
 use crate::front::front_of;
 use cg_base::{List, NoMemory, Text};
-use cg_model::{Insn, Machine, MacroInsn, Mark, Part, Piece};
+use cg_model::{Insn, Machine, MacroInsn, Part, Piece};
+use cg_model_source::Mark;
 use cg_spelling::{Keywords, keywords_of};
 use cg_split::squeezed_syntax;
 use std::alloc::Global;

@@ -2,11 +2,12 @@
 
 ghost use Rattle.std.specs.Prelude.{◌≡◌, ◌<◌, length, slice_get, Some, IfOk};
 ghost use Rattle.cg_choosing.specs.Ordering as spec;
-ghost use Rattle.cg_model.specs.Choosing as choosing;
+ghost use Rattle.cg_model_source.specs.Choosing as choosing;
 
 use cg_base::{List, NoMemory};
 use cg_fitting::{Sums, copied_sum};
-use cg_model::{Given, Sum};
+use cg_model::Given;
+use cg_model_source::Sum;
 use cg_split::Filled;
 use std::alloc::Global;
 

@@ -7,11 +7,11 @@ ghost use Rattle.cg_choosing.specs.Fronts.{front_of, text_front, may_split};
 ghost use Rattle.cg_choosing.specs.Indexing.{IsIndex, GivesAll};
 ghost use Rattle.cg_choosing.specs.Trying.{outcome, trying, as_choice, choice_at, operands_at, written_at, emitted_at, splitting_squeezed, unfit_refusal, told};
 ghost use Rattle.cg_fitting.specs.Misfits.{said};
-ghost use Rattle.cg_model.specs.Choosing as spec;
-ghost use Rattle.cg_model.specs.Spelling.{keywords};
-ghost use Rattle.cg_model.specs.Splitting.{split};
+ghost use Rattle.cg_model_source.specs.Choosing as spec;
+ghost use Rattle.cg_model_source.specs.Spelling.{keywords};
+ghost use Rattle.cg_model_source.specs.Splitting.{split};
 ghost use Rattle.cg_model.specs.Sound.{IsSound, SoundInsn};
-ghost use Rattle.cg_model.specs.faults.E313.{slot_operands};
+ghost use Rattle.cg_model_faults.specs.E313.{slot_operands};
 ghost use Rattle.cg_split.specs.Passing.{filled};
 
 use crate::front::text_front;

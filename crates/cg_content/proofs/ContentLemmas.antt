@@ -10,14 +10,14 @@ use Rattle.cg_base.specs.Numerals.{number_written}
 use Rattle.cg_base.specs.Texts.{same_text}
 use Rattle.cg_choosing.specs.Indexing.{IsIndex, GivesAll}
 use Rattle.cg_choosing.specs.declared.index.Index.{Index}
-use Rattle.cg_model.specs.Bundling as bundling
-use Rattle.cg_model.specs.Bundling.{BundlePart, empty, refused, stands, parts_at, part_of}
-use Rattle.cg_model.specs.Lining.{Statement, nothing, directive, bundle, parted_at, trimmed_all}
+use Rattle.cg_model_source.specs.Bundling as bundling
+use Rattle.cg_model_source.specs.Bundling.{BundlePart, empty, refused, stands, parts_at, part_of}
+use Rattle.cg_model_source.specs.Lining.{Statement, nothing, directive, bundle, parted_at, trimmed_all}
 use Rattle.cg_model.specs.Sound.{IsSound}
-use Rattle.cg_model.specs.Sourcing.{Order, data_of, text, space, origin, align, in_set, malformed, sum_in_front, sums_of, data_order, quoted, text_order, space_order, origin_order, align_by, align_order, order_of, only_set, all_keywords, Content, order, parts, content_of, Item, items_of, order_items, data_items, parts_items, part_items, is_more, items_size, up_to_multiple, machine_after, Label}
-use Rattle.cg_model.specs.Spelling.{keywords, sum_of}
+use Rattle.cg_model_source.specs.Sourcing.{Order, data_of, text, space, origin, align, in_set, malformed, sum_in_front, sums_of, data_order, quoted, text_order, space_order, origin_order, align_by, align_order, order_of, only_set, all_keywords, Content, order, parts, content_of, Item, items_of, order_items, data_items, parts_items, part_items, is_more, items_size, up_to_multiple, machine_after, Label}
+use Rattle.cg_model_source.specs.Spelling.{keywords, sum_of}
 use Rattle.cg_model.specs.declared.machine.Machine.{Machine}
-use Rattle.cg_model.specs.declared.written.Sum.{Sum}
+use Rattle.cg_model_source.specs.declared.written.Sum.{Sum}
 use Rattle.cg_spelling.proofs.Alike.{alike}
 use Rattle.cg_spelling.specs.Laws.{SpellAlike}
 use Rattle.cg_spelling.specs.Lowered.{SameKeywords}

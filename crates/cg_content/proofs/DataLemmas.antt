@@ -6,8 +6,8 @@ use Rattle.std.proofs.Common.{◌≡◌, refl}
 use Rattle.cg_content.specs.Faulting.{told_first, unfit_in, unfit_refusal}
 use Rattle.cg_content.specs.Telling.{width_bytes}
 use Rattle.cg_content.specs.declared.order.Width.{Width}
-use Rattle.cg_model.specs.Choosing.{SourceFault, is_within}
-use Rattle.cg_model.specs.source.E602.{unfit_number}
+use Rattle.cg_model_source.specs.Choosing.{SourceFault, is_within}
+use Rattle.cg_model_source.specs.E602.{unfit_number}
 
 by_within : (number : ℕ) (name : List ℕ) (z : ℤ) (within : Bool) (one : SourceFault) → told_first (one ∷ []) ≡ Some (unfit_refusal number name z) → told_first (if within then [] else one ∷ []) ≡ option_map (unfit_refusal number name) (if within then None else Some z)
 by_within number name z true one e = refl

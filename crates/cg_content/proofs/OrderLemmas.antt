@@ -8,10 +8,10 @@ use Rattle.cg_content.specs.Telling.{told_order, width_for, width_bytes}
 use Rattle.cg_content.specs.declared.order.Order.TheVariants.{Data, Malformed}
 use Rattle.cg_content.specs.declared.order.Width.{Width}
 use Rattle.cg_content.specs.declared.order.Width.TheVariants.{Byte, Half, Word}
-use Rattle.cg_model.specs.Lining.{parted_at, trimmed_all}
-use Rattle.cg_model.specs.Sourcing.{Order, data_of, malformed, sum_in_front, sums_of, data_order, up_to_quote}
-use Rattle.cg_model.specs.Spelling.{sum_of}
-use Rattle.cg_model.specs.declared.written.Sum.{Sum}
+use Rattle.cg_model_source.specs.Lining.{parted_at, trimmed_all}
+use Rattle.cg_model_source.specs.Sourcing.{Order, data_of, malformed, sum_in_front, sums_of, data_order, up_to_quote}
+use Rattle.cg_model_source.specs.Spelling.{sum_of}
+use Rattle.cg_model_source.specs.declared.written.Sum.{Sum}
 
 -- Sums so far, with those of the texts that are left.
 abbrev pub SumsLeft : List (List ℕ) → List Sum → List (List ℕ) → Option (List Sum) → Type 0

@@ -7,7 +7,7 @@ use Rattle.cg_content.specs.declared.order.Width.{Width}
 use Rattle.cg_base.specs.Refusing.{first}
 use Rattle.cg_base.specs.declared.refusal.Refusal.{Refusal}
 use Rattle.cg_choosing.specs.Trying.{fault_refusal}
-use Rattle.cg_model.specs.Choosing.{SourceFault, is_within}
+use Rattle.cg_model_source.specs.Choosing.{SourceFault, is_within}
 
 -- The first fault of several.
 abbrev pub told_first : List SourceFault → Option Refusal

@@ -7,8 +7,8 @@ use Rattle.cg_content.specs.declared.order.Order.TheVariants.{Data, Bytes, Space
 use Rattle.cg_content.specs.declared.order.Width.{Width}
 use Rattle.cg_content.specs.declared.order.Width.TheVariants.{Byte, Half, Word}
 use Rattle.cg_base.specs.Texts.{same_text}
-use Rattle.cg_model.specs.Lining.{Statement}
-use Rattle.cg_model.specs.Sourcing.{Order, data_of, text, space, origin, align, in_set, malformed, data_order, text_order, space_order, origin_order, align_order, Content, order, parts, content_of, up_to_multiple, Label, only_set, Place}
+use Rattle.cg_model_source.specs.Lining.{Statement}
+use Rattle.cg_model_source.specs.Sourcing.{Order, data_of, text, space, origin, align, in_set, malformed, data_order, text_order, space_order, origin_order, align_order, Content, order, parts, content_of, up_to_multiple, Label, only_set, Place}
 use Rattle.cg_model.specs.declared.machine.Machine.{Machine}
 use Rattle.cg_syntax.specs.Telling.{told_parts, part_size}
 use Rattle.cg_syntax.specs.declared.bundle.Part.{Part}

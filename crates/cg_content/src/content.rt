@@ -5,7 +5,7 @@ ghost use Rattle.cg_content.specs.Telling.{content_at, content_size, order_size,
 ghost use Rattle.cg_choosing.specs.Indexing.{IsIndex, GivesAll};
 ghost use Rattle.cg_lines.specs.Seen.{seen_statement};
 ghost use Rattle.cg_model.specs.Sound.{IsSound};
-ghost use Rattle.cg_model.specs.Sourcing as sourcing;
+ghost use Rattle.cg_model_source.specs.Sourcing as sourcing;
 
 use crate::order::{Order, Width, order_of};
 use cg_base::{List, NoMemory};

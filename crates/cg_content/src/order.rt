@@ -5,11 +5,11 @@ ghost use Rattle.std.specs.List.{list_all};
 ghost use Rattle.std.specs.Option.{option_copied};
 ghost use Rattle.cg_content.specs.Telling.{told_order, width_bytes, room_order, one_set_order};
 ghost use Rattle.cg_base.specs.Texts.{seen_text};
-ghost use Rattle.cg_model.specs.Sourcing as spec;
+ghost use Rattle.cg_model_source.specs.Sourcing as spec;
 
 use cg_base::{List, NoMemory, Text, read_number};
 use cg_lines::comma_texts;
-use cg_model::Sum;
+use cg_model_source::Sum;
 use cg_spelling::{Keywords, sum_of};
 use std::alloc::Global;
 

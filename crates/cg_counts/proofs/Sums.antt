@@ -1,7 +1,7 @@
 -- Long texts and sums of lists that are joined, and lists of one.
 use Rattle.std.proofs.Common.{◌≡◌, ◌∙◌, ℕ, List, [], ◌∷◌, ◌++◌, append_assoc, refl, sym, ap}
 use Rattle.std.proofs.lemmas.Grind.{common_steps}
-use Rattle.cg_model.specs.faults.E308.{long_text, long_texts}
+use Rattle.cg_model_faults.specs.E308.{long_text, long_texts}
 use Rattle.cg_said.proofs.Firsts.{first_append}
 
 pub long_append : (xs ys : List (List ℕ)) → long_texts (xs ++ ys) ≡ long_texts xs ++ long_texts ys

@@ -11,7 +11,7 @@ use Rattle.cg_operand.specs.declared.form.OperandForm.TheVariants as operand
 use Rattle.cg_insn.specs.declared.form.InsnForm.TheVariants as insn
 use Rattle.cg_element.specs.declared.element.Element.{Element}
 use Rattle.cg_element.specs.declared.element.Element.TheVariants as element
-use Rattle.cg_model.specs.faults.E308.{field_nodes, multi_nodes, hardware_nodes, insn_nodes, sum_of}
+use Rattle.cg_model_faults.specs.E308.{field_nodes, multi_nodes, hardware_nodes, insn_nodes, sum_of}
 use Rattle.cg_names.specs.declared.scope.Scope.{Scope}
 use Rattle.cg_choices.specs.declared.written.Written.{Written}
 use Rattle.cg_data.specs.Selecting.{takes_part_in}

@@ -23,9 +23,9 @@ use Rattle.cg_known.specs.Table.{gives_isa}
 use Rattle.cg_model.specs.declared.machine.Machine.{Machine}
 use Rattle.cg_model.specs.declared.hardware.NamedValue.{NamedValue}
 use Rattle.cg_model.specs.Matching.{length_of}
-use Rattle.cg_model.specs.Spelling.{named_values}
-use Rattle.cg_model.specs.faults.Finding.{Faults}
-use Rattle.cg_model.specs.faults.E308.{passing, too_many, long_texts, of_syntax}
+use Rattle.cg_model.specs.Words.{named_values}
+use Rattle.cg_model_faults.specs.Finding.{Faults}
+use Rattle.cg_model_faults.specs.E308.{passing, too_many, long_texts, of_syntax}
 use Rattle.cg_names.specs.declared.scope.Scope.{Scope}
 use Rattle.cg_references.specs.Clauses.{clauses_of}
 use Rattle.cg_choices.specs.declared.written.Written.{Written}

@@ -3,7 +3,7 @@ use Rattle.std.specs.Prelude.{ℕ, List, [], Option, Some, None}
 use Rattle.cg_element.specs.declared.element.Element.{Element}
 use Rattle.cg_element.specs.declared.element.Element.TheVariants.{Hardware}
 use Rattle.cg_model.specs.declared.machine.Machine.{Machine}
-use Rattle.cg_model.specs.faults.E314.{circular}
+use Rattle.cg_model_faults.specs.E314.{circular}
 use Rattle.cg_hw.specs.declared.form.HardwareForm.{HardwareForm}
 use Rattle.cg_described.specs.Described.{Described}
 use Rattle.cg_said.specs.declared.saying.Saying.{Saying}

@@ -1,7 +1,7 @@
 -- Limits that are passed.
-use Rattle.cg_model.specs.declared.fault.MachineFault.{MachineFault}
-use Rattle.cg_model.specs.declared.fault.Said.TheVariants.{Count}
-use Rattle.cg_model.specs.faults.Finding.{at_place}
+use Rattle.cg_model_faults.specs.declared.fault.MachineFault.{MachineFault}
+use Rattle.cg_model_faults.specs.declared.fault.Said.TheVariants.{Count}
+use Rattle.cg_model_faults.specs.Finding.{at_place}
 use Rattle.cg_counts.specs.declared.passing.Passed.{Passed}
 
 -- what the code keeps

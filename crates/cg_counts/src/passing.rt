@@ -5,7 +5,7 @@ ghost use Rattle.std.specs.Fmt.{signed_decimal};
 ghost use Rattle.std.specs.Option.{option_map};
 ghost use Rattle.cg_base.specs.Refusing.{first};
 ghost use Rattle.cg_counts.specs.Passing.{seen_passed};
-ghost use Rattle.cg_model.specs.faults.E308.{passing, too_many};
+ghost use Rattle.cg_model_faults.specs.E308.{passing, too_many};
 ghost use Rattle.cg_said.specs.Saying.{saying};
 
 use cg_base::{NoMemory, Text};

@@ -8,8 +8,8 @@ ghost use Rattle.cg_counts.specs.E308 as spec;
 ghost use Rattle.cg_counts.specs.Passing.{seen_passed};
 ghost use Rattle.cg_data.specs.Seen.{seen};
 ghost use Rattle.cg_described.specs.Seen.{seen_described};
-ghost use Rattle.cg_model.specs.Spelling.{named_values};
-ghost use Rattle.cg_model.specs.faults.E308.{of_syntax};
+ghost use Rattle.cg_model.specs.Words.{named_values};
+ghost use Rattle.cg_model_faults.specs.E308.{of_syntax};
 ghost use Rattle.cg_said.specs.Subject.{described_in, machine_in, insns_in};
 ghost use Rattle.cg_selected.specs.Seen.{base};
 

@@ -7,8 +7,8 @@ ghost use Rattle.cg_base.specs.Refusing.{first};
 ghost use Rattle.cg_counts.specs.E308 as spec;
 ghost use Rattle.cg_counts.specs.Passing.{seen_passed};
 ghost use Rattle.cg_described.specs.Seen.{seen_described};
-ghost use Rattle.cg_model.specs.Spelling.{named_values};
-ghost use Rattle.cg_model.specs.faults.E308.{long_text, long_texts};
+ghost use Rattle.cg_model.specs.Words.{named_values};
+ghost use Rattle.cg_model_faults.specs.E308.{long_text, long_texts};
 ghost use Rattle.cg_said.specs.Subject.{described_in, element_in, form_in, insns_in, all_lent};
 
 use crate::passing::{Found, Passed, too_many};

@@ -13,8 +13,8 @@ use Rattle.cg_element.specs.E318.{selected_mach, selected_arch, selected_isa}
 use Rattle.cg_element.specs.Reading.{first_refusal, element_at}
 use Rattle.cg_model.specs.Clashing.{NoClash, FirstClashIn}
 use Rattle.cg_model.specs.Formed.{IsFormed}
-use Rattle.cg_model.specs.faults.Accepted.{IsAccepted}
-use Rattle.cg_model.specs.faults.Refusing as refusing
+use Rattle.cg_model_faults.specs.Accepted.{IsAccepted}
+use Rattle.cg_model_faults.specs.Refusing as refusing
 use Rattle.cg_model.specs.declared.machine.Machine.{Machine}
 use Rattle.cg_names.specs.declared.scope.Scope.{Scope}
 use Rattle.cg_known.specs.Table.{Table, table_of}

@@ -14,7 +14,7 @@ use Rattle.cg_element.specs.E318.{selected_mach}
 use Rattle.cg_element.specs.Reading.{first_refusal, element_at}
 use Rattle.cg_model.specs.Clashing.{FirstClash, NoClash}
 use Rattle.cg_model.specs.declared.machine.Machine.{Machine}
-use Rattle.cg_model.specs.faults.Refusing.{clash_refusal}
+use Rattle.cg_model_faults.specs.Refusing.{clash_refusal}
 use Rattle.cg_names.specs.declared.scope.Scope.{Scope}
 use Rattle.cg_choices.specs.declared.written.Written.{Written}
 use Rattle.cg_expanded.specs.Named.{numbered}

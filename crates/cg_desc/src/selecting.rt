@@ -6,7 +6,7 @@ ghost use Rattle.cg_base.specs.Answering.{Answered};
 ghost use Rattle.cg_desc.specs.Answering as spec;
 ghost use Rattle.cg_element.specs.E318.{selected_mach};
 ghost use Rattle.cg_element.specs.Reading as reading;
-ghost use Rattle.cg_model.specs.faults.Accepted.{IsAccepted};
+ghost use Rattle.cg_model_faults.specs.Accepted.{IsAccepted};
 
 use crate::judging::selected_machine;
 use cg_attrs::MachForm;

@@ -12,7 +12,7 @@ use Rattle.cg_rtl.specs.Shapes.{first_symbol}
 use Rattle.cg_insn.specs.declared.form.InstructionForm.{InstructionForm}
 use Rattle.cg_element.specs.declared.element.Element.{Element}
 use Rattle.cg_element.specs.declared.element.Element.TheVariants.{Frame}
-use Rattle.cg_model.specs.faults.E308.{sum_of}
+use Rattle.cg_model_faults.specs.E308.{sum_of}
 use Rattle.cg_names.specs.Names.{found_under}
 use Rattle.cg_data.specs.Selecting.{Selection, members}
 

@@ -3,7 +3,7 @@
 ghost use Rattle.std.specs.Prelude.{◌≡◌, ◌++◌, map, Some, IfOk, OnOk};
 ghost use Rattle.std.specs.Option.{option_copied, option_map};
 ghost use Rattle.std.specs.List.{filter_map, flat_map};
-ghost use Rattle.cg_model.specs.faults.E308.{sum_of};
+ghost use Rattle.cg_model_faults.specs.E308.{sum_of};
 ghost use Rattle.cg_names.specs.Names.{found_under};
 ghost use Rattle.cg_data.specs.Seen.{seen};
 ghost use Rattle.cg_described.specs.Timing as spec;

@@ -1,11 +1,11 @@
 -- What is asked of an expression, and what stands in it.
 use Rattle.std.specs.Prelude.{ℕ, Bool, true, false, ◌&&◌, List, [], Option, Some, None}
 use Rattle.cg_base.specs.declared.form.Form.{Form}
-use Rattle.cg_model.specs.declared.fault.Purpose.{Purpose}
-use Rattle.cg_model.specs.declared.fault.Purpose.TheVariants as purpose
+use Rattle.cg_model_faults.specs.declared.fault.Purpose.{Purpose}
+use Rattle.cg_model_faults.specs.declared.fault.Purpose.TheVariants as purpose
 use Rattle.cg_model.specs.declared.machine.Machine.{Machine}
-use Rattle.cg_model.specs.faults.E306.{Nameable, in_semantics, in_assertion, in_hardware}
-use Rattle.cg_model.specs.faults.E315.{names_many}
+use Rattle.cg_model_faults.specs.E306.{Nameable, in_semantics, in_assertion, in_hardware}
+use Rattle.cg_model_faults.specs.E315.{names_many}
 use Rattle.cg_names.specs.Names.{rtl_of}
 use Rattle.cg_names.specs.declared.scope.Rule.{Rule}
 use Rattle.cg_names.specs.declared.scope.Rule.TheVariants as rule

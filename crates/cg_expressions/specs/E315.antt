@@ -14,10 +14,10 @@ use Rattle.cg_element.specs.declared.kind.Kind.{Kind}
 use Rattle.cg_element.specs.declared.kind.Kind.TheVariants.{Anyof}
 use Rattle.cg_element.specs.declared.kind.Namespace.TheVariants.{Operands}
 use Rattle.cg_element.specs.Elements.{kind_of}
-use Rattle.cg_model.specs.declared.fault.Purpose.{Purpose}
-use Rattle.cg_model.specs.declared.fault.Purpose.TheVariants as purpose
+use Rattle.cg_model_faults.specs.declared.fault.Purpose.{Purpose}
+use Rattle.cg_model_faults.specs.declared.fault.Purpose.TheVariants as purpose
 use Rattle.cg_model.specs.declared.machine.Machine.{Machine}
-use Rattle.cg_model.specs.faults.E315.{impure_at, names_many}
+use Rattle.cg_model_faults.specs.E315.{impure_at, names_many}
 use Rattle.cg_names.specs.declared.scope.Scope.{Scope}
 use Rattle.cg_known.specs.Table.{Table}
 use Rattle.cg_references.specs.Finding.{stands_as}

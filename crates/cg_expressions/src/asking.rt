@@ -4,7 +4,8 @@ ghost use Rattle.std.specs.Prelude.{◌≡◌, IfOk};
 ghost use Rattle.cg_expressions.specs.Asking as spec;
 
 use cg_base::{Form, List, NoMemory, Text};
-use cg_model::{Machine, Part, Purpose};
+use cg_model::{Machine, Part};
+use cg_model_faults::Purpose;
 use cg_names::{Rule, Scope, built};
 use cg_purity::names_many;
 use cg_uses::{PlacedUse, uses_of};

@@ -5,7 +5,7 @@ ghost use Rattle.std.specs.List.{flat_map};
 ghost use Rattle.cg_attrs.specs.Clauses.{seen_clause};
 ghost use Rattle.cg_base.specs.Refusing.{first};
 ghost use Rattle.cg_data.specs.Seen.{seen_numbering};
-ghost use Rattle.cg_model.specs.faults.Elements.{mode_of_field};
+ghost use Rattle.cg_model_faults.specs.Elements.{mode_of_field};
 ghost use Rattle.cg_selected.specs.Seen.{base, seen_sets};
 ghost use Rattle.cg_faults.specs.Modes as spec;
 
@@ -14,7 +14,8 @@ use cg_base::{Form, Mode, NoMemory, Text};
 use cg_check::{Wanted, by_mode};
 use cg_data::Numbering;
 use cg_expressions::sets_in;
-use cg_model::{Field, Hardware, Machine, Multi, Purpose, Rtl};
+use cg_model::{Field, Hardware, Machine, Multi, Rtl};
+use cg_model_faults::Purpose;
 use cg_names::{Rule, Scope, built};
 use cg_said::{Saying, fault_said};
 use cg_selected::set_rule;

@@ -5,7 +5,7 @@ use Rattle.std.specs.Option.{option_or, option_map}
 use Rattle.std.proofs.Common.{◌≡◌, refl, sym, ap, ◌∙◌, subst}
 use Rattle.std.proofs.lemmas.List.{length-map, take_at}
 use Rattle.cg_code.specs.Coded.{Holds}
-use Rattle.cg_model.specs.Choosing.{Objection, objection, bytes_for, values_for, first_out_of_range, assertion_objection}
+use Rattle.cg_model_source.specs.Choosing.{Objection, objection, bytes_for, values_for, first_out_of_range, assertion_objection}
 use Rattle.cg_model.specs.Encoding.{AreFor, own_pc, in_place}
 use Rattle.cg_model.specs.Matching.{asserts, length_of}
 use Rattle.cg_model.specs.Slots.{slots_of, source_value, values}
@@ -13,7 +13,7 @@ use Rattle.cg_model.specs.Sound.{SoundInsn}
 use Rattle.cg_model.specs.declared.insn.Insn.{Insn}
 use Rattle.cg_model.specs.declared.insn.Values.{Values}
 use Rattle.cg_model.specs.declared.machine.Machine.{Machine}
-use Rattle.cg_model.specs.faults.E313.{slot_operands}
+use Rattle.cg_model_faults.specs.E313.{slot_operands}
 use Rattle.cg_fitting.specs.Misfits.{said, first_misfit, fits_in}
 use Rattle.cg_fitting.specs.Slots.{operands_of, AreThere}
 use Rattle.cg_fitting.specs.declared.misfit.Misfit.{Misfit}

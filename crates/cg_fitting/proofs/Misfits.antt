@@ -4,7 +4,7 @@ use Rattle.std.specs.Option.{option_or, option_map}
 use Rattle.std.specs.Fmt.{signed_decimal}
 use Rattle.std.proofs.Common.{◌≡◌, refl, sym, ap, ◌∙◌, get_or, arith}
 use Rattle.std.proofs.lemmas.Grind.{common_steps}
-use Rattle.cg_model.specs.Choosing.{is_in_range, range_objection, first_out_of_range}
+use Rattle.cg_model_source.specs.Choosing.{is_in_range, range_objection, first_out_of_range}
 use Rattle.cg_model.specs.declared.machine.Machine.{Machine}
 use Rattle.cg_model.specs.declared.operand.Operand.{Operand}
 use Rattle.cg_fitting.specs.Misfits.{said, range_misfit, misfit_at, first_misfit}

@@ -8,7 +8,7 @@ use Rattle.cg_model.specs.declared.insn.Part.{Part}
 use Rattle.cg_model.specs.declared.insn.Part.TheVariants.{Constant, Slot}
 use Rattle.cg_model.specs.declared.machine.Machine.{Machine}
 use Rattle.cg_model.specs.declared.operand.Operand.{Operand}
-use Rattle.cg_model.specs.faults.E313.{slot_operands}
+use Rattle.cg_model_faults.specs.E313.{slot_operands}
 use Rattle.cg_fitting.specs.Slots.{operands_of, AreThere}
 
 one_slot : (m : Machine) (ps : List Part) (o : Option Operand) → slots_of m ps ≡ operands_of m (slot_operands ps) →

@@ -7,7 +7,7 @@ use Rattle.std.proofs.lemmas.Nat.{pow_pos, pow-add, mod_below}
 use Rattle.cg_base.specs.declared.mode.Mode.{Mode}
 use Rattle.cg_base.specs.Modes.{bits_of}
 use Rattle.cg_base.specs.Operations.{wrapped}
-use Rattle.cg_model.specs.Choosing.{value_for, values_for}
+use Rattle.cg_model_source.specs.Choosing.{value_for, values_for}
 use Rattle.cg_model.specs.Encoding.{AreFor}
 use Rattle.cg_model.specs.Slots.{slot_mode}
 use Rattle.cg_model.specs.Sound.{IsSound, SoundOperand}

@@ -5,7 +5,7 @@ use Rattle.std.specs.Option.{option_or}
 use Rattle.cg_base.specs.declared.refusal.Refusal.{Refusal}
 use Rattle.cg_fitting.specs.declared.misfit.Misfit.{Misfit}
 use Rattle.cg_fitting.specs.declared.misfit.Misfit.TheVariants.{OutOfRange, Assertion}
-use Rattle.cg_model.specs.Choosing.{Objection, is_in_range, first_out_of_range, assertion_objection}
+use Rattle.cg_model_source.specs.Choosing.{Objection, is_in_range, first_out_of_range, assertion_objection}
 use Rattle.cg_model.specs.Slots.{slots_of, values}
 use Rattle.cg_model.specs.declared.insn.Insn.{Insn}
 use Rattle.cg_model.specs.declared.machine.Machine.{Machine}

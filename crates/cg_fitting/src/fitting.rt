@@ -4,10 +4,10 @@ ghost use Rattle.std.specs.Prelude.{◌≡◌, ◌≤◌, ◌<◌, ◌^◌, leng
 ghost use Rattle.std.specs.List.{list_all};
 ghost use Rattle.std.specs.Option.{option_map};
 ghost use Rattle.cg_fitting.specs.Misfits.{said, fits_in};
-ghost use Rattle.cg_model.specs.Choosing as spec;
+ghost use Rattle.cg_model_source.specs.Choosing as spec;
 ghost use Rattle.cg_model.specs.Matching.{length_of};
 ghost use Rattle.cg_model.specs.Sound.{IsSound, SoundInsn};
-ghost use Rattle.cg_model.specs.faults.E313.{slot_operands};
+ghost use Rattle.cg_model_faults.specs.E313.{slot_operands};
 
 use crate::misfit::{Misfit, first_misfit};
 use crate::value::values_for;

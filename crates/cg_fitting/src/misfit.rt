@@ -2,7 +2,7 @@
 
 ghost use Rattle.std.specs.Prelude.{◌≡◌, ◌≤◌, ◌^◌, ◌≤ℤ◌, pos, length, IfOk};
 ghost use Rattle.cg_fitting.specs.Misfits.{misfit_at, first_misfit, said, operand_name, refused_for};
-ghost use Rattle.cg_model.specs.Choosing as spec;
+ghost use Rattle.cg_model_source.specs.Choosing as spec;
 ghost use Rattle.cg_model.specs.Sound.{IsSound, SoundOperand};
 
 use crate::value::value_for;

@@ -4,7 +4,7 @@ ghost use Rattle.std.specs.Prelude.{◌≡◌, [], ◌∷◌, ◌++◌, ◌<◌,
 ghost use Rattle.std.specs.Option.{option_copied};
 
 use cg_base::{List, NoMemory};
-use cg_model::{Sum, Term};
+use cg_model_source::{Sum, Term};
 use smallvec::SmallVec;
 use std::alloc::Global;
 use std::default::MadeWith;
@@ -36,7 +36,7 @@ pub struct Sums {
 
 impl Model for Sums {
     ghost use Rattle.std.specs.Prelude.{List as Listed, map};
-    ghost use Rattle.cg_model.specs.declared.written.Sum.{Sum};
+    ghost use Rattle.cg_model_source.specs.declared.written.Sum.{Sum};
 
     ghost Value = { Listed Sum };
 

@@ -3,7 +3,7 @@
 ghost use Rattle.std.specs.Prelude.{◌≡◌, ◌<◌, ◌≤◌, length, slice_get, Some, IfOk};
 ghost use Rattle.cg_base.specs.Operations.{wrapped};
 ghost use Rattle.cg_fitting.specs.Slots.{AreThere, operands_of};
-ghost use Rattle.cg_model.specs.Choosing as spec;
+ghost use Rattle.cg_model_source.specs.Choosing as spec;
 ghost use Rattle.cg_model.specs.Slots.{slot_mode};
 ghost use Rattle.cg_model.specs.Sound.{IsSound, SoundOperand};
 

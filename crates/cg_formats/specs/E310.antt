@@ -3,7 +3,7 @@ use Rattle.std.specs.Prelude.{if◌then◌else◌, List, []}
 use Rattle.std.specs.List.{flat_map}
 use Rattle.cg_base.specs.Refusing.{first}
 use Rattle.cg_model.specs.declared.machine.Machine.{Machine}
-use Rattle.cg_model.specs.faults.E310.{overlaps}
+use Rattle.cg_model_faults.specs.E310.{overlaps}
 use Rattle.cg_choices.specs.declared.written.Written.{Written}
 use Rattle.cg_described.specs.Described.{Described}
 use Rattle.cg_selected.specs.Instructions.{parts_of}

@@ -5,7 +5,7 @@ use Rattle.cg_base.specs.Refusing.{first}
 use Rattle.cg_insn.specs.declared.form.MacroForm.{MacroForm}
 use Rattle.cg_element.specs.declared.element.Element.{Element}
 use Rattle.cg_model.specs.declared.machine.Machine.{Machine}
-use Rattle.cg_model.specs.faults.E312.{undelimited}
+use Rattle.cg_model_faults.specs.E312.{undelimited}
 use Rattle.cg_choices.specs.declared.written.Written.{Written}
 use Rattle.cg_choices.specs.declared.written.WrittenPiece.{WrittenPiece}
 use Rattle.cg_expanded.specs.Written.{all_pieces}

@@ -9,7 +9,7 @@ use Rattle.cg_element.specs.declared.element.Element.{Element}
 use Rattle.cg_element.specs.declared.element.Element.TheVariants.{Frame}
 use Rattle.cg_known.specs.Table.{gives_isa}
 use Rattle.cg_model.specs.declared.machine.Machine.{Machine}
-use Rattle.cg_model.specs.faults.E316.{bundled}
+use Rattle.cg_model_faults.specs.E316.{bundled}
 use Rattle.cg_choices.specs.declared.written.Written.{Written}
 use Rattle.cg_data.specs.declared.extent.Extent.{Extent}
 use Rattle.cg_data.specs.declared.framing.Framing.{Framing}

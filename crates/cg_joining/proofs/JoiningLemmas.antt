@@ -19,12 +19,12 @@ use Rattle.cg_choosing.specs.declared.trying.Choice.{Choice}
 use Rattle.cg_fitting.proofs.Values.{drop_next, wrapped_small}
 use Rattle.cg_fitting.specs.Misfits.{said, refused_for}
 use Rattle.cg_fitting.specs.declared.misfit.Misfit.{Misfit}
-use Rattle.cg_model.specs.Choosing.{Objection}
-use Rattle.cg_model.specs.Sourcing.{Label}
+use Rattle.cg_model_source.specs.Choosing.{Objection}
+use Rattle.cg_model_source.specs.Sourcing.{Label}
 use Rattle.cg_model.specs.declared.machine.Machine.{Machine}
-use Rattle.cg_model.specs.declared.written.Sum.{Sum}
-use Rattle.cg_model.specs.source.E604.{undefined_terms, undefined_sums}
-use Rattle.cg_model.specs.source.E605.{number_with, numbers_with}
+use Rattle.cg_model_source.specs.declared.written.Sum.{Sum}
+use Rattle.cg_model_source.specs.E604.{undefined_terms, undefined_sums}
+use Rattle.cg_model_source.specs.E605.{number_with, numbers_with}
 use Rattle.cg_syntax.proofs.ByteLemmas.{bytes_long, more_by, within_at}
 use Rattle.cg_syntax.proofs.FaultLemmas.{first_of_both}
 use Rattle.cg_syntax.specs.declared.bundle.Part.{Part}

@@ -11,12 +11,12 @@ use Rattle.cg_joining.specs.Labelling.{labels_onto, labels_in, KnowsAll, IsNew}
 use Rattle.cg_base.specs.Texts.{same_text}
 use Rattle.cg_base.specs.declared.refusal.Refusal.{Refusal}
 use Rattle.cg_choosing.proofs.FrontLemmas.{same_some}
-use Rattle.cg_model.specs.Sourcing.{Label, address_of, labels_with}
-use Rattle.cg_model.specs.Spelling.{plus_address, with_addresses}
-use Rattle.cg_model.specs.declared.written.Sum.{Sum}
-use Rattle.cg_model.specs.declared.written.Term.{Term}
-use Rattle.cg_model.specs.source.E604.{undefined, undefined_terms, undefined_sums}
-use Rattle.cg_model.specs.source.E605.{number_with, numbers_with}
+use Rattle.cg_model_source.specs.Sourcing.{Label, address_of, labels_with}
+use Rattle.cg_model_source.specs.Spelling.{plus_address, with_addresses}
+use Rattle.cg_model_source.specs.declared.written.Sum.{Sum}
+use Rattle.cg_model_source.specs.declared.written.Term.{Term}
+use Rattle.cg_model_source.specs.E604.{undefined, undefined_terms, undefined_sums}
+use Rattle.cg_model_source.specs.E605.{number_with, numbers_with}
 use Rattle.cg_syntax.proofs.FaultLemmas.{first_of_both}
 use Rattle.cg_syntax.specs.Faulting.{said_alone}
 use Rattle.indexmap.proofs.CallerLemmas.{insert_entry-new}

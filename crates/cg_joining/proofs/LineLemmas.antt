@@ -14,16 +14,16 @@ use Rattle.cg_base.specs.Operations.{wrapped}
 use Rattle.cg_choosing.specs.Indexing.{GivesAll}
 use Rattle.cg_choosing.specs.Trying.{told_choice, as_choice}
 use Rattle.cg_fitting.specs.Misfits.{refused_for}
-use Rattle.cg_model.specs.Bundling.{BundlePart, empty, refused, stands, instruction_bytes, with_bundle_bit}
-use Rattle.cg_model.specs.Choosing.{Choice, Objection, objection, bytes_for}
-use Rattle.cg_model.specs.Imaging.{item_bytes, items_bytes}
-use Rattle.cg_model.specs.Lining.{Statement, nothing, directive, bundle}
+use Rattle.cg_model_source.specs.Bundling.{BundlePart, empty, refused, stands, instruction_bytes, with_bundle_bit}
+use Rattle.cg_model_source.specs.Choosing.{Choice, Objection, objection, bytes_for}
+use Rattle.cg_model_source.specs.Imaging.{item_bytes, items_bytes}
+use Rattle.cg_model_source.specs.Lining.{Statement, nothing, directive, bundle}
 use Rattle.cg_model.specs.Sound.{IsSound}
-use Rattle.cg_model.specs.Sourcing.{Order, data_of, text, space, origin, align, in_set, malformed, Content, order, parts, content_of, Item, datum, data_items, order_items, part_items, parts_items, items_of, is_more, only_set, all_keywords, Label, up_to_multiple}
+use Rattle.cg_model_source.specs.Sourcing.{Order, data_of, text, space, origin, align, in_set, malformed, Content, order, parts, content_of, Item, datum, data_items, order_items, part_items, parts_items, items_of, is_more, only_set, all_keywords, Label, up_to_multiple}
 use Rattle.cg_model.specs.declared.machine.Machine.{Machine}
-use Rattle.cg_model.specs.declared.written.Sum.{Sum}
-use Rattle.cg_model.specs.source.E604.{undefined_terms, undefined_sums, undefined_item, undefined_items}
-use Rattle.cg_model.specs.source.E605.{number_with, numbers_with, objected, unfit_item, unfit_items}
+use Rattle.cg_model_source.specs.declared.written.Sum.{Sum}
+use Rattle.cg_model_source.specs.E604.{undefined_terms, undefined_sums, undefined_item, undefined_items}
+use Rattle.cg_model_source.specs.E605.{number_with, numbers_with, objected, unfit_item, unfit_items}
 use Rattle.cg_syntax.proofs.BundleLemmas.{same_pc, same_bytes, same_objection}
 use Rattle.cg_syntax.proofs.FaultLemmas.{first_of_both}
 use Rattle.cg_syntax.proofs.StatingLemmas.{Stand, AllStand, parts_stand}

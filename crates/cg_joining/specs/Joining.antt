@@ -13,11 +13,11 @@ use Rattle.cg_base.specs.Bytes.{bytes_of}
 use Rattle.cg_base.specs.Operations.{wrapped}
 use Rattle.cg_base.specs.declared.refusal.Refusal.{Refusal}
 use Rattle.cg_fitting.specs.Misfits.{refused_for}
-use Rattle.cg_model.specs.Sourcing.{Label}
+use Rattle.cg_model_source.specs.Sourcing.{Label}
 use Rattle.cg_model.specs.declared.machine.Machine.{Machine}
-use Rattle.cg_model.specs.declared.written.Sum.{Sum}
-use Rattle.cg_model.specs.source.E604.{undefined_sums}
-use Rattle.cg_model.specs.source.E605.{number_with, numbers_with}
+use Rattle.cg_model_source.specs.declared.written.Sum.{Sum}
+use Rattle.cg_model_source.specs.E604.{undefined_sums}
+use Rattle.cg_model_source.specs.E605.{number_with, numbers_with}
 use Rattle.cg_syntax.specs.Laying.{AreWithin, objection_at, bytes_at, is_more}
 use Rattle.cg_syntax.specs.declared.bundle.Part.{Part}
 use Rattle.cg_syntax.specs.declared.bundle.Part.TheVariants.{Stands}

@@ -1,7 +1,7 @@
 -- Labels in the order of their lines, the last first.
 use Rattle.std.specs.Prelude.{◌≡◌, ℕ, List, [], ◌∷◌, Option, Some, None}
 use Rattle.cg_base.specs.Texts.{same_text}
-use Rattle.cg_model.specs.Sourcing.{Label, address_of}
+use Rattle.cg_model_source.specs.Sourcing.{Label, address_of}
 use Rattle.indexmap.specs.IndexMap.{IndexMap, get}
 
 -- Labels and their addresses, put in front of others one by one.

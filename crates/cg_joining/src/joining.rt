@@ -8,8 +8,8 @@ ghost use Rattle.cg_content.specs.Faulting.{told_first};
 ghost use Rattle.cg_base.specs.Answering.{Answered, Gives, leaving};
 ghost use Rattle.cg_choosing.specs.Indexing.{IsIndex};
 ghost use Rattle.cg_model.specs.Sound.{IsSound};
-ghost use Rattle.cg_model.specs.source.E604.{undefined_sums};
-ghost use Rattle.cg_model.specs.source.E605.{number_with};
+ghost use Rattle.cg_model_source.specs.E604.{undefined_sums};
+ghost use Rattle.cg_model_source.specs.E605.{number_with};
 ghost use Rattle.cg_syntax.specs.Faulting as telling;
 ghost use Rattle.cg_syntax.specs.Laying.{HasBundleBit, IsWithin, AreWithin};
 
@@ -18,7 +18,8 @@ use cg_base::{NoMemory, Refusal, Stop, Text, put_number};
 use cg_choosing::Index;
 use cg_content::{Content, Order, Width, order_size, unfit_in, unfit_refusal, width_bytes};
 use cg_fitting::{misfit_refusal, wrapped};
-use cg_model::{Machine, Sum};
+use cg_model::Machine;
+use cg_model_source::Sum;
 use cg_syntax::{Part, put_instruction, said_alone};
 use std::alloc::Global;
 

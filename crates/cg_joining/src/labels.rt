@@ -5,15 +5,15 @@ ghost use Rattle.std.specs.Option.{option_copied, option_map};
 ghost use Rattle.cg_content.specs.Faulting.{told_first};
 ghost use Rattle.cg_joining.specs.Labelling.{IsNew};
 ghost use Rattle.cg_base.specs.Texts.{seen_text};
-ghost use Rattle.cg_model.specs.Sourcing.{address_of, labels_with};
-ghost use Rattle.cg_model.specs.source.E604.{undefined_terms, undefined_sums};
-ghost use Rattle.cg_model.specs.source.E605.{number_with, numbers_with};
+ghost use Rattle.cg_model_source.specs.Sourcing.{address_of, labels_with};
+ghost use Rattle.cg_model_source.specs.E604.{undefined_terms, undefined_sums};
+ghost use Rattle.cg_model_source.specs.E605.{number_with, numbers_with};
 ghost use Rattle.cg_syntax.specs.Faulting.{said_alone};
 
 use cg_base::{NoMemory, Text};
 use cg_choosing::sum_there;
 use cg_fitting::Sums;
-use cg_model::{Sum, Term};
+use cg_model_source::{Sum, Term};
 use indexmap::IndexMap;
 use std::alloc::Global;
 use std::marker::Model;
@@ -28,7 +28,7 @@ pub struct Labels {
 impl Model for Labels {
     ghost use Rattle.std.specs.Prelude.{List as Listed};
     ghost use Rattle.cg_joining.specs.Labelling.{labels_in, KnowsAll};
-    ghost use Rattle.cg_model.specs.Sourcing.{Label};
+    ghost use Rattle.cg_model_source.specs.Sourcing.{Label};
 
     ghost Value = { Listed Label };
 

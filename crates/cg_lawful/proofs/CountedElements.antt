@@ -31,7 +31,7 @@ use Rattle.cg_insn.specs.declared.form.InstructionForm.{InstructionForm}
 use Rattle.cg_insn.specs.declared.form.MacroForm.{MacroForm}
 use Rattle.cg_insn.specs.declared.syntax.NamedPiece.{NamedPiece}
 use Rattle.cg_insn.specs.declared.syntax.NamedPiece.TheVariants as named
-use Rattle.cg_model.specs.Spelling.{named_values}
+use Rattle.cg_model.specs.Words.{named_values}
 use Rattle.cg_model.specs.declared.field.Field.{Field}
 use Rattle.cg_model.specs.declared.field.Multi.{Multi}
 use Rattle.cg_model.specs.declared.hardware.Hardware.{Hardware}
@@ -42,7 +42,7 @@ use Rattle.cg_model.specs.declared.insn.MacroInsn.{MacroInsn}
 use Rattle.cg_model.specs.declared.insn.Piece.{Piece}
 use Rattle.cg_model.specs.declared.insn.Piece.TheVariants.{Slot}
 use Rattle.cg_model.specs.declared.machine.Machine.{Machine}
-use Rattle.cg_model.specs.faults.E308.{too_many, long_text, long_words, long_words_where, long_literals}
+use Rattle.cg_model_faults.specs.E308.{too_many, long_text, long_words, long_words_where, long_literals}
 use Rattle.cg_names.specs.declared.scope.Scope.{Scope}
 use Rattle.cg_selected.specs.Rules.{ruled_field, ruled_multi, ruled_hardware, ruled_fields, ruled_multis, ruled_hardwares}
 use Rattle.cg_selected.specs.Instructions.{slot_number, piece_of, pieces_of, slot_names, insn_by, instruction_in, form_of, insn_of, insns_of}

@@ -18,7 +18,7 @@ use Rattle.cg_faults.specs.Least.{by_data, by_modes, by_elements}
 use Rattle.cg_operand.specs.declared.form.PlainOperandForm.{PlainOperandForm}
 use Rattle.cg_expanded.specs.Expanded.{expanded}
 use Rattle.cg_counts.specs.Known.{nothing, count_new}
-use Rattle.cg_model.specs.faults.E308.{sum_of}
+use Rattle.cg_model_faults.specs.E308.{sum_of}
 use Rattle.cg_model.specs.declared.machine.Machine.{Machine}
 use Rattle.cg_names.specs.declared.scope.Scope.{Scope}
 use Rattle.cg_selected.specs.Macros.{macro_in}

@@ -22,7 +22,7 @@ use Rattle.cg_element.specs.Reading.{element_at, first_refusal}
 use Rattle.cg_expanded.specs.Choices.{distinct_behind}
 use Rattle.cg_faults.specs.Least.{by_elements}
 use Rattle.cg_model.specs.declared.machine.Machine.{Machine}
-use Rattle.cg_model.specs.faults.E308.{long_text, long_texts, too_many}
+use Rattle.cg_model_faults.specs.E308.{long_text, long_texts, too_many}
 use Rattle.cg_names.specs.declared.scope.Scope.{Scope}
 use Rattle.cg_lawful.proofs.Members.{AllHold, all_append}
 use Rattle.cg_lawful.proofs.CountedElements.{own_at}

@@ -16,10 +16,10 @@ use Rattle.cg_described.specs.Texts.{of_form}
 use Rattle.cg_element.specs.declared.element.Element.{Element}
 use Rattle.cg_faults.specs.Least.{faults_at, data_of, behind_of, by_data_from}
 use Rattle.cg_model.specs.declared.machine.Machine.{Machine}
-use Rattle.cg_model.specs.declared.fault.MachineFault.{MachineFault}
-use Rattle.cg_model.specs.declared.fault.Said.TheVariants.{Count}
-use Rattle.cg_model.specs.faults.E308.{passing}
-use Rattle.cg_model.specs.faults.Finding.{at_place, where_so}
+use Rattle.cg_model_faults.specs.declared.fault.MachineFault.{MachineFault}
+use Rattle.cg_model_faults.specs.declared.fault.Said.TheVariants.{Count}
+use Rattle.cg_model_faults.specs.E308.{passing}
+use Rattle.cg_model_faults.specs.Finding.{at_place, where_so}
 use Rattle.cg_names.specs.declared.scope.Scope.{Scope}
 use Rattle.cg_said.specs.Saying.{fault_said}
 use Rattle.cg_lawful.proofs.Clear.{none_said, nothing_said}

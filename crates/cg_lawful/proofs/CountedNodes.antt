@@ -24,7 +24,7 @@ use Rattle.cg_described.specs.Described.{Described, described, written_in}
 use Rattle.cg_described.specs.Texts.{of_form}
 use Rattle.cg_expanded.specs.Expanded.{instructions_in, instructions_at, expanded_from}
 use Rattle.cg_faults.specs.Least.{behind_of}
-use Rattle.cg_model.specs.faults.E308.{sum_of, field_nodes, multi_nodes, hardware_nodes}
+use Rattle.cg_model_faults.specs.E308.{sum_of, field_nodes, multi_nodes, hardware_nodes}
 use Rattle.cg_names.specs.declared.scope.Scope.{Scope}
 use Rattle.cg_selected.specs.Rules.{ruled_field, ruled_multi, ruled_hardware}
 use Rattle.cg_lawful.proofs.CountedGroups.{Grouped}

@@ -19,7 +19,7 @@ use Rattle.cg_element.specs.Elements.{kind_of}
 use Rattle.cg_element.specs.Reading.{element_of, element_faults, element_at, first_refusal}
 use Rattle.cg_faults.specs.Least.{faults_at, by_elements}
 use Rattle.cg_model.specs.declared.machine.Machine.{Machine}
-use Rattle.cg_model.specs.faults.E308.{long_text, long_texts}
+use Rattle.cg_model_faults.specs.E308.{long_text, long_texts}
 use Rattle.cg_names.specs.declared.scope.Scope.{Scope}
 use Rattle.cg_references.specs.Clauses.{clauses_of}
 use Rattle.cg_references.specs.E305.{e305}

@@ -34,9 +34,9 @@ use Rattle.cg_known.specs.Table.{Table, built_in_hardware, counted_name}
 use Rattle.cg_model.specs.Placed.{RuleName, rule_named, needed_where}
 use Rattle.cg_model.specs.declared.hardware.Hardware.{Hardware}
 use Rattle.cg_model.specs.declared.machine.Machine.{Machine}
-use Rattle.cg_model.specs.declared.fault.Said.TheVariants as said
-use Rattle.cg_model.specs.faults.E314.{one_leads, leads_in, needs, needs_itself, circular}
-use Rattle.cg_model.specs.faults.Finding.{at_place, where_so}
+use Rattle.cg_model_faults.specs.declared.fault.Said.TheVariants as said
+use Rattle.cg_model_faults.specs.E314.{one_leads, leads_in, needs, needs_itself, circular}
+use Rattle.cg_model_faults.specs.Finding.{at_place, where_so}
 use Rattle.cg_names.specs.Names.{place_of}
 use Rattle.cg_names.specs.declared.scope.Scope.{Scope}
 use Rattle.cg_references.specs.Clauses.{clauses_in}

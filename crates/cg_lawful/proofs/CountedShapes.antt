@@ -39,8 +39,8 @@ use Rattle.cg_model.specs.Matching.{length_of}
 use Rattle.cg_model.specs.declared.insn.Insn.{Insn}
 use Rattle.cg_model.specs.declared.insn.MacroInsn.{MacroInsn}
 use Rattle.cg_model.specs.declared.machine.Machine.{Machine}
-use Rattle.cg_model.specs.faults.E308.{too_many, of_shape, of_syntax}
-use Rattle.cg_model.specs.faults.E313.{slot_operands, part_operands}
+use Rattle.cg_model_faults.specs.E308.{too_many, of_shape, of_syntax}
+use Rattle.cg_model_faults.specs.E313.{slot_operands, part_operands}
 use Rattle.cg_names.specs.declared.scope.Scope.{Scope}
 use Rattle.cg_references.specs.Clauses.{clauses_in}
 use Rattle.cg_selected.specs.Instructions.{part_of, part_in, slot_part, slot_names, behind_format, parts_of, pieces_of, kept_cycles, number_or_none, insn_by, insn_of, insns_of}

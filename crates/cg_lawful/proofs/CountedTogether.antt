@@ -21,7 +21,7 @@ use Rattle.cg_data.specs.Numbering.{field_in, multi_in, hardware_in}
 use Rattle.cg_data.specs.Hardware.{cells_of}
 use Rattle.cg_described.specs.Described.{Described}
 use Rattle.cg_faults.specs.Least.{behind_of}
-use Rattle.cg_model.specs.faults.E308.{sum_of}
+use Rattle.cg_model_faults.specs.E308.{sum_of}
 use Rattle.cg_names.specs.declared.scope.Scope.{Scope}
 use Rattle.cg_selected.specs.Macros.{macro_in}
 use Rattle.cg_lawful.proofs.CountedLimits.{own_of, counts_behind}

@@ -19,7 +19,7 @@ use Rattle.cg_faults.specs.Least.{by_elements}
 use Rattle.cg_hw.specs.declared.form.HardwareForm.{HardwareForm}
 use Rattle.cg_ifield.specs.declared.form.PlainForm.{PlainForm}
 use Rattle.cg_ifield.specs.declared.form.MultiForm.{MultiForm}
-use Rattle.cg_model.specs.faults.E308.{sum_of, insn_nodes, all_cells, all_field_nodes, all_multi_nodes, all_hardware_nodes}
+use Rattle.cg_model_faults.specs.E308.{sum_of, insn_nodes, all_cells, all_field_nodes, all_multi_nodes, all_hardware_nodes}
 use Rattle.cg_model.specs.declared.insn.Insn.{Insn}
 use Rattle.cg_model.specs.declared.machine.Machine.{Machine}
 use Rattle.cg_names.specs.declared.scope.Scope.{Scope}

@@ -1,17 +1,17 @@
 -- Elements whose counts stay within the limits, all together, stay within them one by one.
 use Rattle.std.proofs.Common.{◌≡◌, ℕ, suc, ◌+◌, ◌≤◌, ◌==◌, false, List, [], ◌∷◌, ◌++◌, map, length, refl, arith}
 use Rattle.std.proofs.lemmas.Bool.Decides.{nat_tests}
-use Rattle.cg_model.specs.declared.fault.Said.TheVariants.{Count, Nothing}
+use Rattle.cg_model_faults.specs.declared.fault.Said.TheVariants.{Count, Nothing}
 use Rattle.cg_model.specs.declared.field.Field.{Field}
 use Rattle.cg_model.specs.declared.field.Multi.{Multi}
 use Rattle.cg_model.specs.declared.hardware.Hardware.{Hardware}
 use Rattle.cg_model.specs.declared.insn.Insn.{Insn}
 use Rattle.cg_model.specs.declared.insn.MacroInsn.{MacroInsn}
 use Rattle.cg_model.specs.declared.operand.Operand.{Operand}
-use Rattle.cg_model.specs.faults.Finding.{Faults, at_place}
-use Rattle.cg_model.specs.faults.E308.{passing, too_many, long_text, long_words_where, long_literals, field_nodes, multi_nodes, hardware_nodes, insn_nodes, all_field_nodes, all_multi_nodes, all_hardware_nodes, all_cells, sum_of, words_of}
-use Rattle.cg_model.specs.faults.E308 as e308
-use Rattle.cg_model.specs.faults.E317.{too_many_insns}
+use Rattle.cg_model_faults.specs.Finding.{Faults, at_place}
+use Rattle.cg_model_faults.specs.E308.{passing, too_many, long_text, long_words_where, long_literals, field_nodes, multi_nodes, hardware_nodes, insn_nodes, all_field_nodes, all_multi_nodes, all_hardware_nodes, all_cells, sum_of, words_of}
+use Rattle.cg_model_faults.specs.E308 as e308
+use Rattle.cg_model_faults.specs.E317.{too_many_insns}
 use Rattle.cg_lawful.specs.InHand.{of_fields, of_multis, of_all_hardware, of_operands, of_insns, of_macros, of_numbers}
 use Rattle.cg_lawful.proofs.CountedLimits.{not_passed, none_where}
 use Rattle.cg_lawful.proofs.CountedOwn.{IsShort}

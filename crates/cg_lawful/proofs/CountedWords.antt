@@ -24,10 +24,10 @@ use Rattle.cg_element.specs.Reading.{reader_for, element_faults}
 use Rattle.cg_hw.specs.Hardware.{hardware_in, hardware_of, hardware_faults}
 use Rattle.cg_hw.specs.Tables.{kind_named}
 use Rattle.cg_hw.specs.declared.form.HardwareForm.{HardwareForm}
-use Rattle.cg_model.specs.Spelling.{named_values}
+use Rattle.cg_model.specs.Words.{named_values}
 use Rattle.cg_model.specs.declared.machine.Machine.{Machine}
-use Rattle.cg_model.specs.faults.Finding.{Faults}
-use Rattle.cg_model.specs.faults.E308.{too_many}
+use Rattle.cg_model_faults.specs.Finding.{Faults}
+use Rattle.cg_model_faults.specs.E308.{too_many}
 use Rattle.cg_names.specs.declared.scope.Scope.{Scope}
 use Rattle.cg_references.specs.Clauses.{clauses_in, clauses_of}
 use Rattle.cg_lawful.proofs.Opened.{Opened, opened}

@@ -32,7 +32,7 @@ use Rattle.cg_ifield.specs.declared.table.FieldKind.{FieldKind}
 use Rattle.cg_ifield.specs.declared.table.FieldKind.TheVariants as kind
 use Rattle.cg_model.specs.Formed.{is_formed_where}
 use Rattle.cg_model.specs.declared.machine.Machine.{Machine}
-use Rattle.cg_model.specs.declared.fault.Purpose.TheVariants as purpose
+use Rattle.cg_model_faults.specs.declared.fault.Purpose.TheVariants as purpose
 use Rattle.cg_names.specs.declared.scope.Rule.TheVariants as rule
 use Rattle.cg_names.specs.declared.scope.Scope.{Scope}
 use Rattle.cg_choices.specs.declared.written.Written.{Written}

@@ -5,8 +5,8 @@ use Rattle.std.proofs.lemmas.Bool.Decides.{nat_tests}
 use Rattle.cg_allowed.proofs.Lists.{append_none}
 use Rattle.cg_element.specs.declared.element.Element.{Element}
 use Rattle.cg_model.specs.declared.machine.Machine.{Machine}
-use Rattle.cg_model.specs.faults.E310 as bits
-use Rattle.cg_model.specs.faults.E316 as bundle
+use Rattle.cg_model_faults.specs.E310 as bits
+use Rattle.cg_model_faults.specs.E316 as bundle
 use Rattle.cg_names.specs.declared.scope.Scope.{Scope}
 use Rattle.cg_choices.specs.declared.written.Written.{Written}
 use Rattle.cg_described.specs.Described.{Described}

@@ -7,9 +7,9 @@ use Rattle.cg_attrs.specs.declared.frame.IsaForm.{IsaForm}
 use Rattle.cg_ifield.specs.declared.form.PlainForm.{PlainForm}
 use Rattle.cg_model.specs.declared.field.Field.{Field}
 use Rattle.cg_model.specs.declared.machine.Machine.{Machine}
-use Rattle.cg_model.specs.declared.fault.Said.TheVariants as said
-use Rattle.cg_model.specs.faults.E316 as model
-use Rattle.cg_model.specs.faults.Finding.{Faults, at_place, where_so}
+use Rattle.cg_model_faults.specs.declared.fault.Said.TheVariants as said
+use Rattle.cg_model_faults.specs.E316 as model
+use Rattle.cg_model_faults.specs.Finding.{Faults, at_place, where_so}
 use Rattle.cg_names.specs.declared.scope.Scope.{Scope}
 use Rattle.cg_data.specs.declared.extent.Extent.{Extent}
 use Rattle.cg_data.specs.declared.framing.Framing.{Framing}

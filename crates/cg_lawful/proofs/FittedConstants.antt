@@ -26,9 +26,9 @@ use Rattle.cg_allowed.proofs.Members.{IsMember}
 use Rattle.cg_model.specs.declared.insn.Part.TheVariants as part
 use Rattle.cg_model.specs.declared.field.Field.{Field}
 use Rattle.cg_model.specs.declared.machine.Machine.{Machine}
-use Rattle.cg_model.specs.faults.E311.{unfit_at, unfit_from}
-use Rattle.cg_model.specs.faults.Finding.{Faults, at_place, where_so}
-use Rattle.cg_model.specs.declared.fault.Said.TheVariants as said
+use Rattle.cg_model_faults.specs.E311.{unfit_at, unfit_from}
+use Rattle.cg_model_faults.specs.Finding.{Faults, at_place, where_so}
+use Rattle.cg_model_faults.specs.declared.fault.Said.TheVariants as said
 use Rattle.cg_names.specs.declared.scope.Scope.{Scope}
 use Rattle.cg_choices.specs.declared.written.NamedPart.{NamedPart}
 use Rattle.cg_choices.specs.declared.written.NamedPart.TheVariants.{Constant, Slot}

@@ -7,8 +7,8 @@ use Rattle.cg_element.specs.declared.element.Element.TheVariants as element
 use Rattle.cg_insn.specs.declared.form.InsnForm.TheVariants as insn
 use Rattle.cg_insn.specs.declared.form.MacroForm.{MacroForm}
 use Rattle.cg_model.specs.declared.machine.Machine.{Machine}
-use Rattle.cg_model.specs.faults.E312.{undelimited}
-use Rattle.cg_model.specs.faults.E313.{slot_operands}
+use Rattle.cg_model_faults.specs.E312.{undelimited}
+use Rattle.cg_model_faults.specs.E313.{slot_operands}
 use Rattle.cg_names.specs.declared.scope.Scope.{Scope}
 use Rattle.cg_choices.specs.declared.written.NamedPart.{NamedPart}
 use Rattle.cg_choices.specs.declared.written.NamedPart.TheVariants as part

@@ -11,10 +11,10 @@ use Rattle.cg_insn.specs.declared.syntax.NamedPiece.{NamedPiece}
 use Rattle.cg_insn.specs.declared.syntax.NamedPiece.TheVariants as named
 use Rattle.cg_model.specs.declared.insn.Given.{Given}
 use Rattle.cg_model.specs.declared.insn.Given.TheVariants as given
-use Rattle.cg_model.specs.declared.fault.Said.TheVariants.{Own, Operand}
-use Rattle.cg_model.specs.declared.fault.Said.TheVariants as said
-use Rattle.cg_model.specs.faults.E313.{ungiven_from, ungiven, is_giving, is_given, unused_from}
-use Rattle.cg_model.specs.faults.Finding.{at_place}
+use Rattle.cg_model_faults.specs.declared.fault.Said.TheVariants.{Own, Operand}
+use Rattle.cg_model_faults.specs.declared.fault.Said.TheVariants as said
+use Rattle.cg_model_faults.specs.E313.{ungiven_from, ungiven, is_giving, is_given, unused_from}
+use Rattle.cg_model_faults.specs.Finding.{at_place}
 use Rattle.cg_choices.specs.declared.written.WrittenPiece.{WrittenPiece}
 use Rattle.cg_described.proofs.Among.{among_more}
 use Rattle.cg_described.specs.Described.{Described}

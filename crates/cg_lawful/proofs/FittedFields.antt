@@ -6,8 +6,8 @@ use Rattle.cg_base.specs.Modes.{bits_of}
 use Rattle.cg_element.specs.declared.element.Element.TheVariants as element
 use Rattle.cg_ifield.specs.declared.form.FieldForm.TheVariants as field
 use Rattle.cg_ifield.specs.declared.form.PlainForm.{PlainForm}
-use Rattle.cg_model.specs.faults.E309.{misplaced}
-use Rattle.cg_model.specs.faults.E309 as e309
+use Rattle.cg_model_faults.specs.E309.{misplaced}
+use Rattle.cg_model_faults.specs.E309 as e309
 use Rattle.cg_model.specs.declared.machine.Machine.{Machine}
 use Rattle.cg_names.specs.declared.scope.Scope.{Scope}
 use Rattle.cg_data.specs.declared.extent.Extent.{Extent}

@@ -13,7 +13,7 @@ use Rattle.cg_insn.specs.declared.form.MacroForm.{MacroForm}
 use Rattle.cg_known.specs.Table.{table_of}
 use Rattle.cg_model.specs.declared.insn.MacroInsn.{MacroInsn}
 use Rattle.cg_model.specs.declared.machine.Machine.{Machine}
-use Rattle.cg_model.specs.faults.E308.{too_many}
+use Rattle.cg_model_faults.specs.E308.{too_many}
 use Rattle.cg_names.specs.declared.scope.Scope.{Scope}
 use Rattle.cg_choices.specs.declared.written.Written.{Written}
 use Rattle.cg_lawful.specs.InHand.{IsChosen, AreKnown}

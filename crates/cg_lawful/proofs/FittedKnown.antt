@@ -20,7 +20,7 @@ use Rattle.cg_operand.specs.declared.form.PlainOperandForm.{PlainOperandForm}
 use Rattle.cg_known.specs.declared.names.Standing.{Standing}
 use Rattle.cg_known.specs.Table.{table_of, first_from, standing, counted_name}
 use Rattle.cg_model.specs.declared.operand.Operand.{Operand}
-use Rattle.cg_model.specs.faults.E306.{lies_in_fields}
+use Rattle.cg_model_faults.specs.E306.{lies_in_fields}
 use Rattle.cg_names.specs.Names.{place_of}
 use Rattle.cg_choices.specs.declared.written.Written.{Written}
 use Rattle.cg_data.specs.Selecting.{Selection}

@@ -13,7 +13,7 @@ use Rattle.cg_element.specs.declared.kind.Kind.TheVariants as kinds
 use Rattle.cg_insn.specs.declared.form.InsnForm.TheVariants as insn
 use Rattle.cg_insn.specs.declared.form.MacroForm.{MacroForm}
 use Rattle.cg_model.specs.declared.machine.Machine.{Machine}
-use Rattle.cg_model.specs.faults.E313.{written_twice, ungiven, is_given, unused}
+use Rattle.cg_model_faults.specs.E313.{written_twice, ungiven, is_given, unused}
 use Rattle.cg_names.specs.declared.scope.Scope.{Scope}
 use Rattle.cg_names.specs.Names.{place_of}
 use Rattle.cg_choices.specs.declared.written.Written.{Written}

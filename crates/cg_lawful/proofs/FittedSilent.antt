@@ -8,9 +8,9 @@ use Rattle.cg_allowed.proofs.Framing.{IsElement}
 use Rattle.cg_element.specs.declared.element.Element.{Element}
 use Rattle.cg_element.specs.Elements.{kind_of}
 use Rattle.cg_element.specs.Reading.{element_at, first_refusal}
-use Rattle.cg_model.specs.declared.fault.MachineFault.{MachineFault}
+use Rattle.cg_model_faults.specs.declared.fault.MachineFault.{MachineFault}
 use Rattle.cg_model.specs.declared.machine.Machine.{Machine}
-use Rattle.cg_model.specs.faults.Finding.{Faults}
+use Rattle.cg_model_faults.specs.Finding.{Faults}
 use Rattle.cg_names.specs.declared.scope.Scope.{Scope}
 use Rattle.cg_references.specs.Clauses.{clauses_of}
 use Rattle.cg_choices.specs.declared.written.Written.{Written}

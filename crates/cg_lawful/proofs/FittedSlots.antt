@@ -10,9 +10,9 @@ use Rattle.cg_insn.specs.declared.syntax.NamedPiece.{NamedPiece}
 use Rattle.cg_insn.specs.declared.syntax.NamedPiece.TheVariants as named
 use Rattle.cg_model.specs.declared.insn.Piece.{Piece}
 use Rattle.cg_model.specs.declared.insn.Piece.TheVariants.{Literal, Slot}
-use Rattle.cg_model.specs.faults.E313.{is_slot, is_written, operand_said, twice_from, written_twice}
-use Rattle.cg_model.specs.faults.Finding.{at_place}
-use Rattle.cg_model.specs.declared.fault.Said.TheVariants.{Own}
+use Rattle.cg_model_faults.specs.E313.{is_slot, is_written, operand_said, twice_from, written_twice}
+use Rattle.cg_model_faults.specs.Finding.{at_place}
+use Rattle.cg_model_faults.specs.declared.fault.Said.TheVariants.{Own}
 use Rattle.cg_choices.specs.declared.written.WrittenPiece.{WrittenPiece}
 use Rattle.cg_described.proofs.Among.{among_more}
 use Rattle.cg_formats.specs.E313.{piece_at, pieces_behind}

@@ -7,8 +7,8 @@ use Rattle.cg_insn.specs.declared.form.InstructionForm.{InstructionForm}
 use Rattle.cg_insn.specs.declared.form.MacroForm.{MacroForm}
 use Rattle.cg_model.specs.declared.insn.Insn.{Insn}
 use Rattle.cg_model.specs.declared.machine.Machine.{Machine}
-use Rattle.cg_model.specs.faults.E313.{slot_operands}
-use Rattle.cg_model.specs.faults.Elements.{emitted}
+use Rattle.cg_model_faults.specs.E313.{slot_operands}
+use Rattle.cg_model_faults.specs.Elements.{emitted}
 use Rattle.cg_names.specs.declared.scope.Scope.{Scope}
 use Rattle.cg_choices.specs.declared.written.Written.{Written}
 use Rattle.cg_data.specs.Selecting.{Selection}

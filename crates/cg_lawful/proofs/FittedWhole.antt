@@ -17,9 +17,9 @@ use Rattle.cg_ifield.specs.declared.form.PlainForm.{PlainForm}
 use Rattle.cg_insn.specs.declared.form.InsnForm.TheVariants as insn
 use Rattle.cg_insn.specs.declared.form.InstructionForm.{InstructionForm}
 use Rattle.cg_insn.specs.declared.form.MacroForm.{MacroForm}
-use Rattle.cg_model.specs.faults.E309.{misplaced}
-use Rattle.cg_model.specs.faults.E316.{no_bundle_bit}
-use Rattle.cg_model.specs.faults.E313.{slot_operands, unmatched, ungiven}
+use Rattle.cg_model_faults.specs.E309.{misplaced}
+use Rattle.cg_model_faults.specs.E316.{no_bundle_bit}
+use Rattle.cg_model_faults.specs.E313.{slot_operands, unmatched, ungiven}
 use Rattle.cg_model.specs.declared.insn.MacroInsn.{MacroInsn}
 use Rattle.cg_model.specs.declared.machine.Machine.{Machine}
 use Rattle.cg_names.specs.declared.scope.Scope.{Scope}

@@ -6,7 +6,7 @@ use Rattle.cg_model.specs.Checked.{Verdict, mode_of}
 use Rattle.cg_model.specs.Formed.{expression, stands, depth, is_formed}
 use Rattle.cg_model.specs.declared.machine.Machine.{Machine}
 use Rattle.cg_model.specs.declared.rtl.Rtl.{Rtl}
-use Rattle.cg_model.specs.faults.Judging.{Judged, other_modes, verdict_faults, mode_faults}
+use Rattle.cg_model_faults.specs.Judging.{Judged, other_modes, verdict_faults, mode_faults}
 use Rattle.cg_check.specs.declared.moded.Wanted.{Wanted}
 use Rattle.cg_check.specs.Wanting.{judged}
 use Rattle.cg_allowed.proofs.Lists.{append_none}

@@ -20,9 +20,9 @@ use Rattle.cg_ifield.specs.declared.form.FieldForm.TheVariants as field
 use Rattle.cg_ifield.specs.declared.form.PlainForm.{PlainForm}
 use Rattle.cg_model.specs.declared.field.Field.{Field}
 use Rattle.cg_model.specs.declared.machine.Machine.{Machine}
-use Rattle.cg_model.specs.declared.fault.Purpose.TheVariants as purpose
-use Rattle.cg_model.specs.faults.Elements.{judged_where, field_modes}
-use Rattle.cg_model.specs.faults.Judging.{has_value}
+use Rattle.cg_model_faults.specs.declared.fault.Purpose.TheVariants as purpose
+use Rattle.cg_model_faults.specs.Elements.{judged_where, field_modes}
+use Rattle.cg_model_faults.specs.Judging.{has_value}
 use Rattle.cg_names.specs.declared.scope.Rule.TheVariants as rule
 use Rattle.cg_names.specs.declared.scope.Scope.{Scope}
 use Rattle.cg_choices.specs.declared.written.Written.{Written}

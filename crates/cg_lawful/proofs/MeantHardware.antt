@@ -32,10 +32,10 @@ use Rattle.cg_known.specs.Table.{Table}
 use Rattle.cg_model.specs.Formed.{expression as alone, depth, stands, is_formed, is_formed_where}
 use Rattle.cg_model.specs.declared.hardware.Hardware.{Hardware}
 use Rattle.cg_model.specs.declared.machine.Machine.{Machine}
-use Rattle.cg_model.specs.declared.fault.Purpose.TheVariants as purpose
-use Rattle.cg_model.specs.faults.E306.{in_hardware}
-use Rattle.cg_model.specs.faults.Elements.{judged_where, hardware_modes}
-use Rattle.cg_model.specs.faults.Judging.{has_index, has_new_value}
+use Rattle.cg_model_faults.specs.declared.fault.Purpose.TheVariants as purpose
+use Rattle.cg_model_faults.specs.E306.{in_hardware}
+use Rattle.cg_model_faults.specs.Elements.{judged_where, hardware_modes}
+use Rattle.cg_model_faults.specs.Judging.{has_index, has_new_value}
 use Rattle.cg_names.specs.Names.{rtl_of}
 use Rattle.cg_names.specs.declared.scope.Rule.{Rule}
 use Rattle.cg_names.specs.declared.scope.Rule.TheVariants as rule

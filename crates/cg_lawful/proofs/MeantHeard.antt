@@ -24,8 +24,8 @@ use Rattle.cg_faults.specs.Modes.{modes_said}
 use Rattle.cg_model.specs.declared.machine.Machine.{Machine}
 use Rattle.cg_model.specs.declared.rtl.Op.{Op}
 use Rattle.cg_model.specs.declared.rtl.Op.TheVariants as op
-use Rattle.cg_model.specs.faults.Finding.{at_place, where_so}
-use Rattle.cg_model.specs.declared.fault.Said.TheVariants as said
+use Rattle.cg_model_faults.specs.Finding.{at_place, where_so}
+use Rattle.cg_model_faults.specs.declared.fault.Said.TheVariants as said
 use Rattle.cg_names.specs.declared.scope.Scope.{Scope}
 use Rattle.cg_named.specs.E304 as e304
 use Rattle.cg_named.specs.E306 as e306

@@ -26,17 +26,17 @@ use Rattle.cg_insn.specs.declared.form.InstructionForm.{InstructionForm}
 use Rattle.cg_known.specs.Table.{Table}
 use Rattle.cg_model.specs.Formed.{depth, stands, is_formed}
 use Rattle.cg_model.specs.Formed as shape
-use Rattle.cg_model.specs.declared.fault.Purpose.TheVariants as purpose
+use Rattle.cg_model_faults.specs.declared.fault.Purpose.TheVariants as purpose
 use Rattle.cg_model.specs.declared.insn.Insn.{Insn}
 use Rattle.cg_model.specs.declared.machine.Machine.{Machine}
 use Rattle.cg_model.specs.declared.rtl.Op.TheVariants as op
 use Rattle.cg_model.specs.declared.rtl.Rtl.{Rtl}
-use Rattle.cg_model.specs.faults.E304.{no_cell_at, no_cells}
-use Rattle.cg_model.specs.faults.E306.{Nameable, in_semantics, in_assertion, stray_at, strays, unnamed}
-use Rattle.cg_model.specs.faults.E315.{is_impure, names_ruled, may_not_name, impure_at, names_many, impure}
-use Rattle.cg_model.specs.faults.Elements.{cells_of, names_of, purity_of, where_there, insn_cells, insn_names, judged_where, insn_judged, insn_modes}
-use Rattle.cg_model.specs.faults.Finding.{in_nodes, where_so}
-use Rattle.cg_model.specs.faults.Judging.{outside_at, outside_rules, mode_faults, all_outside, all_modes}
+use Rattle.cg_model_faults.specs.E304.{no_cell_at, no_cells}
+use Rattle.cg_model_faults.specs.E306.{Nameable, in_semantics, in_assertion, stray_at, strays, unnamed}
+use Rattle.cg_model_faults.specs.E315.{is_impure, names_ruled, may_not_name, impure_at, names_many, impure}
+use Rattle.cg_model_faults.specs.Elements.{cells_of, names_of, purity_of, where_there, insn_cells, insn_names, judged_where, insn_judged, insn_modes}
+use Rattle.cg_model_faults.specs.Finding.{in_nodes, where_so}
+use Rattle.cg_model_faults.specs.Judging.{outside_at, outside_rules, mode_faults, all_outside, all_modes}
 use Rattle.cg_names.specs.Names.{node, rtl_of}
 use Rattle.cg_names.specs.declared.scope.Rule.TheVariants as rule
 use Rattle.cg_names.specs.declared.scope.Scope.{Scope}

@@ -33,17 +33,17 @@ use Rattle.cg_ifield.specs.declared.form.FieldForm.TheVariants as field
 use Rattle.cg_ifield.specs.declared.form.MultiForm.{MultiForm}
 use Rattle.cg_known.specs.Table.{Table}
 use Rattle.cg_model.specs.declared.field.Multi.{Multi}
-use Rattle.cg_model.specs.declared.fault.Purpose.{Purpose}
-use Rattle.cg_model.specs.declared.fault.Purpose.TheVariants as purpose
+use Rattle.cg_model_faults.specs.declared.fault.Purpose.{Purpose}
+use Rattle.cg_model_faults.specs.declared.fault.Purpose.TheVariants as purpose
 use Rattle.cg_model.specs.declared.machine.Machine.{Machine}
 use Rattle.cg_model.specs.declared.rtl.Op.TheVariants as op
 use Rattle.cg_model.specs.declared.rtl.Rtl.{Rtl}
-use Rattle.cg_model.specs.faults.E304.{no_cell_at, no_cells}
-use Rattle.cg_model.specs.faults.E306.{unnamed}
-use Rattle.cg_model.specs.faults.E315.{impure_at, names_many, impure}
-use Rattle.cg_model.specs.faults.Elements.{cells_of, numbers_of, purity_of, of_all, judged_where, mode_of_field, inserts_judged, multi_judged, multi_modes}
-use Rattle.cg_model.specs.faults.Finding.{where_so}
-use Rattle.cg_model.specs.faults.Judging.{has_value, outside_at, outside_rules, mode_faults, all_outside, all_modes}
+use Rattle.cg_model_faults.specs.E304.{no_cell_at, no_cells}
+use Rattle.cg_model_faults.specs.E306.{unnamed}
+use Rattle.cg_model_faults.specs.E315.{impure_at, names_many, impure}
+use Rattle.cg_model_faults.specs.Elements.{cells_of, numbers_of, purity_of, of_all, judged_where, mode_of_field, inserts_judged, multi_judged, multi_modes}
+use Rattle.cg_model_faults.specs.Finding.{where_so}
+use Rattle.cg_model_faults.specs.Judging.{has_value, outside_at, outside_rules, mode_faults, all_outside, all_modes}
 use Rattle.cg_names.specs.Names.{found_under, nothing, rtl_of}
 use Rattle.cg_names.specs.declared.scope.Rule.TheVariants as rule
 use Rattle.cg_names.specs.declared.scope.Scope.{Scope}

@@ -7,18 +7,18 @@ use Rattle.cg_base.specs.declared.form.Form.{Form}
 use Rattle.cg_base.specs.declared.mode.Mode.{Mode}
 use Rattle.cg_base.specs.Refusing.{first}
 use Rattle.cg_allowed.proofs.Lists.{append_none}
-use Rattle.cg_model.specs.declared.fault.MachineFault.{MachineFault}
-use Rattle.cg_model.specs.declared.fault.Purpose.{Purpose}
-use Rattle.cg_model.specs.declared.fault.Purpose.TheVariants as purpose
-use Rattle.cg_model.specs.declared.fault.Said.TheVariants as said
+use Rattle.cg_model_faults.specs.declared.fault.MachineFault.{MachineFault}
+use Rattle.cg_model_faults.specs.declared.fault.Purpose.{Purpose}
+use Rattle.cg_model_faults.specs.declared.fault.Purpose.TheVariants as purpose
+use Rattle.cg_model_faults.specs.declared.fault.Said.TheVariants as said
 use Rattle.cg_model.specs.declared.machine.Machine.{Machine}
 use Rattle.cg_model.specs.declared.rtl.Op.{Op}
 use Rattle.cg_model.specs.declared.rtl.Op.TheVariants as op
 use Rattle.cg_model.specs.declared.rtl.Rtl.{Rtl}
-use Rattle.cg_model.specs.faults.E304.{no_cell_at, no_cells}
-use Rattle.cg_model.specs.faults.E306.{Nameable, stray_at, strays, unnamed}
-use Rattle.cg_model.specs.faults.E315.{is_impure, names_field, names_other, names_ruled, may_not_name, impure_at, names_many, impure}
-use Rattle.cg_model.specs.faults.Finding.{Faults, AtNode, at_place, where_so, in_nodes}
+use Rattle.cg_model_faults.specs.E304.{no_cell_at, no_cells}
+use Rattle.cg_model_faults.specs.E306.{Nameable, stray_at, strays, unnamed}
+use Rattle.cg_model_faults.specs.E315.{is_impure, names_field, names_other, names_ruled, may_not_name, impure_at, names_many, impure}
+use Rattle.cg_model_faults.specs.Finding.{Faults, AtNode, at_place, where_so, in_nodes}
 use Rattle.cg_model.specs.Pure.{is_pure_op}
 use Rattle.cg_names.specs.Names.{rtl_of}
 use Rattle.cg_names.specs.declared.scope.Scope.{Scope}

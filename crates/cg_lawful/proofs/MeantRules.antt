@@ -16,15 +16,15 @@ use Rattle.cg_shaped.specs.Numbered.{HasEach}
 use Rattle.cg_shaped.specs.Outside.{Fits}
 use Rattle.cg_shaped.proofs.Outside.{inside_by}
 use Rattle.cg_known.specs.Table.{Table}
-use Rattle.cg_model.specs.declared.fault.Purpose.{Purpose}
+use Rattle.cg_model_faults.specs.declared.fault.Purpose.{Purpose}
 use Rattle.cg_model.specs.declared.machine.Machine.{Machine}
 use Rattle.cg_model.specs.declared.rtl.Rtl.{Rtl}
-use Rattle.cg_model.specs.faults.E304.{no_cells}
-use Rattle.cg_model.specs.faults.E306.{unnamed}
-use Rattle.cg_model.specs.faults.E315.{impure}
-use Rattle.cg_model.specs.faults.Elements.{cells_of, numbers_of, purity_of, where_there, judged_where}
-use Rattle.cg_model.specs.faults.Finding.{Faults, where_none}
-use Rattle.cg_model.specs.faults.Judging.{Judged, outside_rules, mode_faults, all_outside, all_modes, judged_faults}
+use Rattle.cg_model_faults.specs.E304.{no_cells}
+use Rattle.cg_model_faults.specs.E306.{unnamed}
+use Rattle.cg_model_faults.specs.E315.{impure}
+use Rattle.cg_model_faults.specs.Elements.{cells_of, numbers_of, purity_of, where_there, judged_where}
+use Rattle.cg_model_faults.specs.Finding.{Faults, where_none}
+use Rattle.cg_model_faults.specs.Judging.{Judged, outside_rules, mode_faults, all_outside, all_modes, judged_faults}
 use Rattle.cg_names.specs.Names.{rtl_of}
 use Rattle.cg_names.specs.declared.scope.Scope.{Scope}
 use Rattle.cg_expressions.specs.declared.asking.Naming.{Naming}

@@ -14,12 +14,12 @@ use Rattle.cg_base.specs.Parts.{◌>>=◌, Layer, Headed, headed, headed_by, hea
 use Rattle.cg_base.specs.Refusing.{first}
 use Rattle.cg_base.specs.Texts.{same_text}
 use Rattle.cg_model.specs.Formed.{greatest, depth_step, depth}
-use Rattle.cg_model.specs.declared.fault.Said.TheVariants as said
+use Rattle.cg_model_faults.specs.declared.fault.Said.TheVariants as said
 use Rattle.cg_model.specs.declared.machine.Machine.{Machine}
 use Rattle.cg_model.specs.declared.rtl.Op.{Op}
 use Rattle.cg_model.specs.declared.rtl.Op.TheVariants as op
 use Rattle.cg_model.specs.declared.rtl.Rtl.{Rtl, Rtl-F, out-Rtl, fold_out-Rtl, fold-roll-Rtl, out-roll-Rtl}
-use Rattle.cg_model.specs.faults.Finding.{AtNode, at_place, where_so}
+use Rattle.cg_model_faults.specs.Finding.{AtNode, at_place, where_so}
 use Rattle.cg_names.specs.Names.{readings, found_under, node, leaf, nothing, numbered, number_named, given_where, rule_name, named_by_rule, is_own, is_pure, field_named, bare_field, enum_value, constant_named, last_place, value_in, value_named, value_of, name_first, number_first, elements_first, elements_or_none, arm, arm_at, choice_at, declare_of, local_name, register_named, operand_index, sequence_of, function_rtl, known_rtl, call_rtl, layer_rtl, rtl_to, rtl_of, mode_first, function_of}
 use Rattle.cg_names.specs.declared.function.Function.{Function}
 use Rattle.cg_names.specs.declared.function.Function.TheVariants as function

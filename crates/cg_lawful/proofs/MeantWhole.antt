@@ -23,12 +23,12 @@ use Rattle.cg_known.specs.Table.{built_in_hardware}
 use Rattle.cg_model.specs.declared.field.Field.{Field}
 use Rattle.cg_model.specs.declared.field.Multi.{Multi}
 use Rattle.cg_model.specs.declared.hardware.Hardware.{Hardware}
-use Rattle.cg_model.specs.declared.fault.Purpose.TheVariants as purpose
+use Rattle.cg_model_faults.specs.declared.fault.Purpose.TheVariants as purpose
 use Rattle.cg_model.specs.declared.insn.Insn.{Insn}
 use Rattle.cg_model.specs.declared.machine.Machine.{Machine}
-use Rattle.cg_model.specs.faults.E306.{in_hardware}
-use Rattle.cg_model.specs.faults.Elements.{cells_of, names_of, where_there, judged_where}
-use Rattle.cg_model.specs.faults.Judging.{judged_faults}
+use Rattle.cg_model_faults.specs.E306.{in_hardware}
+use Rattle.cg_model_faults.specs.Elements.{cells_of, names_of, where_there, judged_where}
+use Rattle.cg_model_faults.specs.Judging.{judged_faults}
 use Rattle.cg_names.specs.declared.scope.Scope.{Scope}
 use Rattle.cg_choices.specs.declared.written.Written.{Written}
 use Rattle.cg_data.specs.Framing.{framing}

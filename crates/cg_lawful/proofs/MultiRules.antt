@@ -33,7 +33,7 @@ use Rattle.cg_known.specs.Table.{Table}
 use Rattle.cg_model.specs.Formed.{depth_step, depth, stands, expression, is_formed}
 use Rattle.cg_model.specs.declared.field.Multi.{Multi}
 use Rattle.cg_model.specs.declared.machine.Machine.{Machine}
-use Rattle.cg_model.specs.declared.fault.Purpose.TheVariants as purpose
+use Rattle.cg_model_faults.specs.declared.fault.Purpose.TheVariants as purpose
 use Rattle.cg_model.specs.declared.rtl.Op.TheVariants as op
 use Rattle.cg_model.specs.declared.rtl.Rtl.{Rtl, fold-roll-Rtl}
 use Rattle.cg_names.specs.Names.{nothing, rtl_of}

@@ -14,8 +14,8 @@ use Rattle.cg_model.specs.Formed.{is_formed}
 use Rattle.cg_model.specs.declared.field.Multi.{Multi}
 use Rattle.cg_model.specs.declared.machine.Machine.{Machine}
 use Rattle.cg_model.specs.declared.rtl.Rtl.{Rtl}
-use Rattle.cg_model.specs.declared.fault.Purpose.TheVariants as purpose
-use Rattle.cg_model.specs.faults.Elements.{mode_of_field}
+use Rattle.cg_model_faults.specs.declared.fault.Purpose.TheVariants as purpose
+use Rattle.cg_model_faults.specs.Elements.{mode_of_field}
 use Rattle.cg_names.specs.Names.{found_under, rtl_of}
 use Rattle.cg_names.specs.declared.scope.Scope.{Scope}
 use Rattle.cg_data.specs.Numbering.{Numbering}

@@ -6,9 +6,9 @@ use Rattle.std.proofs.lemmas.Bool.Decides.{nat_tests}
 use Rattle.cg_base.specs.Texts.{same_text, is_among}
 use Rattle.cg_allowed.proofs.Lists.{the_found}
 use Rattle.cg_data.specs.Numbering.{short, numbered}
-use Rattle.cg_model.specs.faults.E306.{beyond, beyond_from}
-use Rattle.cg_model.specs.faults.Finding.{at_place}
-use Rattle.cg_model.specs.declared.fault.Said.TheVariants as said
+use Rattle.cg_model_faults.specs.E306.{beyond, beyond_from}
+use Rattle.cg_model_faults.specs.Finding.{at_place}
+use Rattle.cg_model_faults.specs.declared.fault.Said.TheVariants as said
 use Rattle.cg_names.specs.Names.{place_of}
 use Rattle.cg_selected.specs.Instructions.{number_or_none}
 use Rattle.cg_lawful.proofs.CountedLimits.{none_where}

@@ -21,9 +21,9 @@ use Rattle.cg_model.specs.declared.field.Multi.{Multi}
 use Rattle.cg_model.specs.declared.machine.Machine.{Machine}
 use Rattle.cg_model.specs.declared.operand.Operand.{Operand}
 use Rattle.cg_model.specs.declared.operand.Source.TheVariants as source
-use Rattle.cg_model.specs.faults.E306.{beyond, no_bundle, no_subs, no_source}
-use Rattle.cg_model.specs.faults.E306 as e306
-use Rattle.cg_model.specs.faults.Finding.{Faults}
+use Rattle.cg_model_faults.specs.E306.{beyond, no_bundle, no_subs, no_source}
+use Rattle.cg_model_faults.specs.E306 as e306
+use Rattle.cg_model_faults.specs.Finding.{Faults}
 use Rattle.cg_names.specs.declared.scope.Scope.{Scope}
 use Rattle.cg_selected.specs.Machines.{bundle_name, machine_of}
 use Rattle.cg_selected.specs.Rules.{ruled_field, ruled_multi, ruled_hardware}

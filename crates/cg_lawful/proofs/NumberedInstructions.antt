@@ -19,9 +19,9 @@ use Rattle.cg_insn.specs.declared.form.InstructionForm.{InstructionForm}
 use Rattle.cg_known.specs.Table.{table_of}
 use Rattle.cg_model.specs.declared.insn.Part.{Part}
 use Rattle.cg_model.specs.declared.machine.Machine.{Machine}
-use Rattle.cg_model.specs.faults.E306.{beyond, beyond_from, no_slots, no_part, no_parts, no_given, no_givens, of_shape, of_macro}
-use Rattle.cg_model.specs.faults.E306 as e306
-use Rattle.cg_model.specs.faults.E313.{slot_operands}
+use Rattle.cg_model_faults.specs.E306.{beyond, beyond_from, no_slots, no_part, no_parts, no_given, no_givens, of_shape, of_macro}
+use Rattle.cg_model_faults.specs.E306 as e306
+use Rattle.cg_model_faults.specs.E313.{slot_operands}
 use Rattle.cg_names.specs.declared.scope.Scope.{Scope}
 use Rattle.cg_references.specs.declared.reference.Place.TheVariants as place
 use Rattle.cg_references.specs.Finding.{stands_as, is_plain_operand}

@@ -22,7 +22,7 @@ use Rattle.cg_model.specs.declared.insn.Given.{Given}
 use Rattle.cg_model.specs.declared.insn.Given.TheVariants as given
 use Rattle.cg_model.specs.declared.insn.MacroInsn.{MacroInsn}
 use Rattle.cg_model.specs.declared.machine.Machine.{Machine}
-use Rattle.cg_model.specs.faults.E306.{beyond, beyond_from, no_slots, no_given, no_givens, of_macro}
+use Rattle.cg_model_faults.specs.E306.{beyond, beyond_from, no_slots, no_given, no_givens, of_macro}
 use Rattle.cg_names.specs.declared.scope.Scope.{Scope}
 use Rattle.cg_selected.specs.Instructions.{number_or_none, slot_names, slot_of, slot_number, pieces_of, insn_by, insn_of}
 use Rattle.cg_selected.specs.Machines.{machine_of}

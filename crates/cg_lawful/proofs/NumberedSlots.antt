@@ -30,7 +30,7 @@ use Rattle.cg_insn.specs.declared.syntax.NamedPiece.{NamedPiece}
 use Rattle.cg_insn.specs.declared.syntax.NamedPiece.TheVariants as named
 use Rattle.cg_known.specs.Table.{Table}
 use Rattle.cg_model.specs.declared.insn.Piece.TheVariants as piece
-use Rattle.cg_model.specs.faults.E306.{beyond, no_slots}
+use Rattle.cg_model_faults.specs.E306.{beyond, no_slots}
 use Rattle.cg_operand.specs.declared.form.AnyofOperandForm.{AnyofOperandForm}
 use Rattle.cg_operand.specs.declared.form.DerivedOperandForm.{DerivedOperandForm}
 use Rattle.cg_names.specs.Names.{place_of}

@@ -16,7 +16,7 @@ use Rattle.cg_model.specs.declared.insn.Insn.{Insn}
 use Rattle.cg_model.specs.declared.insn.MacroInsn.{MacroInsn}
 use Rattle.cg_model.specs.declared.machine.Machine.{Machine}
 use Rattle.cg_model.specs.declared.operand.Operand.{Operand}
-use Rattle.cg_model.specs.faults.E306.{no_subs, of_operand, of_shape, of_macro}
+use Rattle.cg_model_faults.specs.E306.{no_subs, of_operand, of_shape, of_macro}
 use Rattle.cg_names.specs.declared.scope.Scope.{Scope}
 use Rattle.cg_selected.specs.Instructions.{form_of, insn_by, insn_of}
 use Rattle.cg_selected.specs.Machines.{machine_of}
@@ -45,12 +45,12 @@ use Rattle.cg_element.specs.Reading.{reader_for, element_faults}
 use Rattle.cg_hw.specs.Hardware.{hardware_of, hardware_faults}
 use Rattle.cg_hw.specs.declared.form.HardwareForm.{HardwareForm}
 use Rattle.cg_model.specs.Placed.{is_register}
-use Rattle.cg_model.specs.declared.fault.MachineFault.{MachineFault}
-use Rattle.cg_model.specs.declared.fault.Said.TheVariants as said
+use Rattle.cg_model_faults.specs.declared.fault.MachineFault.{MachineFault}
+use Rattle.cg_model_faults.specs.declared.fault.Said.TheVariants as said
 use Rattle.cg_model.specs.declared.hardware.Hardware.{Hardware}
 use Rattle.cg_model.specs.declared.hardware.HwKind.TheVariants.{Register}
-use Rattle.cg_model.specs.faults.E304.{no_register}
-use Rattle.cg_model.specs.faults.Finding.{at_place, where_so}
+use Rattle.cg_model_faults.specs.E304.{no_register}
+use Rattle.cg_model_faults.specs.Finding.{at_place, where_so}
 use Rattle.cg_names.specs.Names.{rtl_of}
 use Rattle.cg_names.specs.declared.scope.Rule.TheVariants as rule
 use Rattle.cg_selected.specs.Rules.{hardware_rule, ruled_hardware}

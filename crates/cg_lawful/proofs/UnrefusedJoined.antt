@@ -8,19 +8,19 @@ use Rattle.cg_model.specs.declared.insn.Insn.{Insn}
 use Rattle.cg_model.specs.declared.insn.MacroInsn.{MacroInsn}
 use Rattle.cg_model.specs.declared.machine.Machine.{Machine}
 use Rattle.cg_model.specs.declared.operand.Operand.{Operand}
-use Rattle.cg_model.specs.faults.Finding.{Faults, where_none}
-use Rattle.cg_model.specs.faults.E304.{no_register}
-use Rattle.cg_model.specs.faults.E306 as e306
-use Rattle.cg_model.specs.faults.E308 as e308
-use Rattle.cg_model.specs.faults.E308.{field_nodes, multi_nodes, hardware_nodes, insn_nodes}
-use Rattle.cg_model.specs.faults.E310.{overlaps}
-use Rattle.cg_model.specs.faults.E312.{undelimited}
-use Rattle.cg_model.specs.faults.E314.{circular}
-use Rattle.cg_model.specs.faults.E317.{too_many_insns}
-use Rattle.cg_model.specs.faults.Elements.{cells_of, numbers_of, names_of, purity_of, where_there, of_all, insn_cells, insn_names, insn_format, insn_shape, emitted, macro_syntax, field_modes, multi_modes, hardware_modes, insn_modes}
-use Rattle.cg_model.specs.faults.Elements as elements
-use Rattle.cg_model.specs.faults.Refusing.{Found, by_data, by_modes, first_found, first_refusal, spent_on_fields, spent_on_multis, spent_on_hardware, of_field_modes, of_multi_modes, of_hardware_modes, of_insn_modes}
-use Rattle.cg_model.specs.faults.Refusing as refusing
+use Rattle.cg_model_faults.specs.Finding.{Faults, where_none}
+use Rattle.cg_model_faults.specs.E304.{no_register}
+use Rattle.cg_model_faults.specs.E306 as e306
+use Rattle.cg_model_faults.specs.E308 as e308
+use Rattle.cg_model_faults.specs.E308.{field_nodes, multi_nodes, hardware_nodes, insn_nodes}
+use Rattle.cg_model_faults.specs.E310.{overlaps}
+use Rattle.cg_model_faults.specs.E312.{undelimited}
+use Rattle.cg_model_faults.specs.E314.{circular}
+use Rattle.cg_model_faults.specs.E317.{too_many_insns}
+use Rattle.cg_model_faults.specs.Elements.{cells_of, numbers_of, names_of, purity_of, where_there, of_all, insn_cells, insn_names, insn_format, insn_shape, emitted, macro_syntax, field_modes, multi_modes, hardware_modes, insn_modes}
+use Rattle.cg_model_faults.specs.Elements as elements
+use Rattle.cg_model_faults.specs.Refusing.{Found, by_data, by_modes, first_found, first_refusal, spent_on_fields, spent_on_multis, spent_on_hardware, of_field_modes, of_multi_modes, of_hardware_modes, of_insn_modes}
+use Rattle.cg_model_faults.specs.Refusing as refusing
 use Rattle.cg_lawful.specs.InHand.{AreWithin}
 use Rattle.cg_lawful.specs.InHand as hand
 use Rattle.cg_lawful.proofs.CountedWithin.{none_joined}

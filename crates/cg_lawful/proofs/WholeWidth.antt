@@ -28,9 +28,9 @@ use Rattle.cg_element.specs.Reading.{reader_for, element_at, first_refusal}
 use Rattle.cg_known.specs.Table.{table_of}
 use Rattle.cg_model.specs.Formed.{is_width}
 use Rattle.cg_model.specs.declared.machine.Machine.{Machine}
-use Rattle.cg_model.specs.faults.Finding.{at_place, where_so}
-use Rattle.cg_model.specs.faults.E308.{too_many}
-use Rattle.cg_model.specs.declared.fault.Said.TheVariants.{Count}
+use Rattle.cg_model_faults.specs.Finding.{at_place, where_so}
+use Rattle.cg_model_faults.specs.E308.{too_many}
+use Rattle.cg_model_faults.specs.declared.fault.Said.TheVariants.{Count}
 use Rattle.cg_names.specs.declared.scope.Scope.{Scope}
 use Rattle.cg_references.specs.declared.reference.Place.TheVariants as place
 use Rattle.cg_references.specs.Finding.{fits}

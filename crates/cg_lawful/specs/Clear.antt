@@ -1,21 +1,21 @@
 -- What is said of a machine in hand beside its counts, its rules that need themselves and its numbers outside of expressions: nothing of its
 -- expressions, by what they name, by what may stand in them and by their modes; and nothing of its bits and slots.
 use Rattle.std.specs.Prelude.{◌≡◌, ℕ, [], Some, slice_get}
-use Rattle.cg_model.specs.declared.fault.Purpose.TheVariants as purpose
+use Rattle.cg_model_faults.specs.declared.fault.Purpose.TheVariants as purpose
 use Rattle.cg_model.specs.declared.field.Field.{Field}
 use Rattle.cg_model.specs.declared.field.Multi.{Multi}
 use Rattle.cg_model.specs.declared.hardware.Hardware.{Hardware}
 use Rattle.cg_model.specs.declared.insn.Insn.{Insn}
 use Rattle.cg_model.specs.declared.insn.MacroInsn.{MacroInsn}
 use Rattle.cg_model.specs.declared.machine.Machine.{Machine}
-use Rattle.cg_model.specs.faults.E306.{in_hardware}
-use Rattle.cg_model.specs.faults.E309.{misplaced}
-use Rattle.cg_model.specs.faults.E310.{overlaps}
-use Rattle.cg_model.specs.faults.E311.{unfit_constants}
-use Rattle.cg_model.specs.faults.E312.{undelimited}
-use Rattle.cg_model.specs.faults.E313.{slot_operands, written_twice, unmatched, ungiven, unused}
-use Rattle.cg_model.specs.faults.E316.{no_bundle_bit, bundled}
-use Rattle.cg_model.specs.faults.Elements.{cells_of, numbers_of, names_of, purity_of, where_there, of_all, insn_cells, insn_names, emitted, field_modes, multi_modes, hardware_modes, insn_modes}
+use Rattle.cg_model_faults.specs.E306.{in_hardware}
+use Rattle.cg_model_faults.specs.E309.{misplaced}
+use Rattle.cg_model_faults.specs.E310.{overlaps}
+use Rattle.cg_model_faults.specs.E311.{unfit_constants}
+use Rattle.cg_model_faults.specs.E312.{undelimited}
+use Rattle.cg_model_faults.specs.E313.{slot_operands, written_twice, unmatched, ungiven, unused}
+use Rattle.cg_model_faults.specs.E316.{no_bundle_bit, bundled}
+use Rattle.cg_model_faults.specs.Elements.{cells_of, numbers_of, names_of, purity_of, where_there, of_all, insn_cells, insn_names, emitted, field_modes, multi_modes, hardware_modes, insn_modes}
 
 pub record FieldClear (m : Machine) (f : Field) : Type 0 where
   pub encode_cells : where_there (cells_of m) f.encode ≡ []

@@ -1,12 +1,12 @@
 -- What of a machine's bits and slots has no fault.
 use Rattle.std.specs.Prelude.{◌≡◌, ℕ, [], Some, slice_get}
-use Rattle.cg_model.specs.faults.E309.{misplaced}
-use Rattle.cg_model.specs.faults.E310.{overlaps}
-use Rattle.cg_model.specs.faults.E311.{unfit_constants}
-use Rattle.cg_model.specs.faults.E312.{undelimited}
-use Rattle.cg_model.specs.faults.E313.{slot_operands, written_twice, unmatched, ungiven, unused}
-use Rattle.cg_model.specs.faults.E316.{no_bundle_bit, bundled}
-use Rattle.cg_model.specs.faults.Elements.{emitted}
+use Rattle.cg_model_faults.specs.E309.{misplaced}
+use Rattle.cg_model_faults.specs.E310.{overlaps}
+use Rattle.cg_model_faults.specs.E311.{unfit_constants}
+use Rattle.cg_model_faults.specs.E312.{undelimited}
+use Rattle.cg_model_faults.specs.E313.{slot_operands, written_twice, unmatched, ungiven, unused}
+use Rattle.cg_model_faults.specs.E316.{no_bundle_bit, bundled}
+use Rattle.cg_model_faults.specs.Elements.{emitted}
 use Rattle.cg_model.specs.declared.field.Field.{Field}
 use Rattle.cg_model.specs.declared.insn.Insn.{Insn}
 use Rattle.cg_model.specs.declared.insn.MacroInsn.{MacroInsn}

@@ -14,12 +14,12 @@ use Rattle.cg_model.specs.declared.insn.Insn.{Insn}
 use Rattle.cg_model.specs.declared.insn.MacroInsn.{MacroInsn}
 use Rattle.cg_model.specs.declared.machine.Machine.{Machine}
 use Rattle.cg_model.specs.declared.operand.Operand.{Operand}
-use Rattle.cg_model.specs.faults.Finding.{Faults}
-use Rattle.cg_model.specs.faults.E308 as e308
-use Rattle.cg_model.specs.faults.E308.{field_nodes, multi_nodes, hardware_nodes, insn_nodes, long_text, of_texts}
-use Rattle.cg_model.specs.faults.E314.{circular}
-use Rattle.cg_model.specs.faults.E317.{too_many_insns}
-use Rattle.cg_model.specs.faults.Refusing.{spent_on_fields, spent_on_multis, spent_on_hardware}
+use Rattle.cg_model_faults.specs.Finding.{Faults}
+use Rattle.cg_model_faults.specs.E308 as e308
+use Rattle.cg_model_faults.specs.E308.{field_nodes, multi_nodes, hardware_nodes, insn_nodes, long_text, of_texts}
+use Rattle.cg_model_faults.specs.E314.{circular}
+use Rattle.cg_model_faults.specs.E317.{too_many_insns}
+use Rattle.cg_model_faults.specs.Refusing.{spent_on_fields, spent_on_multis, spent_on_hardware}
 
 abbrev pub of_fields : ℕ → ℕ → List Field → Faults
 of_fields before spent [] = []

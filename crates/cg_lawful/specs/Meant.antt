@@ -1,14 +1,14 @@
 -- What the expressions of a machine in hand have no fault in: by what they name (E304, E306), by what may stand in them (E315), and by their
 -- modes (E401 to E406).
 use Rattle.std.specs.Prelude.{◌≡◌, ℕ, [], Some, slice_get}
-use Rattle.cg_model.specs.declared.fault.Purpose.TheVariants as purpose
+use Rattle.cg_model_faults.specs.declared.fault.Purpose.TheVariants as purpose
 use Rattle.cg_model.specs.declared.field.Field.{Field}
 use Rattle.cg_model.specs.declared.field.Multi.{Multi}
 use Rattle.cg_model.specs.declared.hardware.Hardware.{Hardware}
 use Rattle.cg_model.specs.declared.insn.Insn.{Insn}
 use Rattle.cg_model.specs.declared.machine.Machine.{Machine}
-use Rattle.cg_model.specs.faults.E306.{in_hardware}
-use Rattle.cg_model.specs.faults.Elements.{cells_of, numbers_of, names_of, purity_of, where_there, of_all, insn_cells, insn_names, field_modes, multi_modes, hardware_modes, insn_modes}
+use Rattle.cg_model_faults.specs.E306.{in_hardware}
+use Rattle.cg_model_faults.specs.Elements.{cells_of, numbers_of, names_of, purity_of, where_there, of_all, insn_cells, insn_names, field_modes, multi_modes, hardware_modes, insn_modes}
 
 pub record FieldMeant (m : Machine) (f : Field) : Type 0 where
   pub encode_cells : where_there (cells_of m) f.encode ≡ []

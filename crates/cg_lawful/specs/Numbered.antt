@@ -7,8 +7,8 @@ use Rattle.cg_model.specs.declared.insn.Insn.{Insn}
 use Rattle.cg_model.specs.declared.insn.MacroInsn.{MacroInsn}
 use Rattle.cg_model.specs.declared.machine.Machine.{Machine}
 use Rattle.cg_model.specs.declared.operand.Operand.{Operand}
-use Rattle.cg_model.specs.faults.E304.{no_register}
-use Rattle.cg_model.specs.faults.E306.{no_bundle, no_subs, of_operand, of_shape, of_macro}
+use Rattle.cg_model_faults.specs.E304.{no_register}
+use Rattle.cg_model_faults.specs.E306.{no_bundle, no_subs, of_operand, of_shape, of_macro}
 
 pub record AreNumbered (m : Machine) : Type 0 where
   pub bundle : no_bundle m ≡ []

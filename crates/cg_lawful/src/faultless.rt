@@ -7,7 +7,7 @@ ghost use Rattle.cg_described.specs.Seen.{forms_of, seen_described};
 ghost use Rattle.cg_element.specs.Reading as reading;
 ghost use Rattle.cg_faults.specs.Least.{by_elements};
 ghost use Rattle.cg_model.specs.Formed.{IsFormed};
-ghost use Rattle.cg_model.specs.faults.Refusing as refusing;
+ghost use Rattle.cg_model_faults.specs.Refusing as refusing;
 ghost use Rattle.cg_selected.specs.Machines.{machine_of};
 ghost use Rattle.cg_selected.specs.Seen.{base};
 

@@ -1,6 +1,6 @@
 ghost use Rattle.std.specs.Prelude.{◌≡◌, None};
 ghost use Rattle.cg_lawful.specs.InHand.{AreWithin};
-ghost use Rattle.cg_model.specs.faults.Refusing.{first_refusal};
+ghost use Rattle.cg_model_faults.specs.Refusing.{first_refusal};
 ghost use Rattle.cg_lawful.specs.Numbered.{AreNumbered};
 ghost use Rattle.cg_lawful.specs.Clear.{AreClear};
 

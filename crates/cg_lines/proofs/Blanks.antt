@@ -5,8 +5,8 @@ use Rattle.std.proofs.Common.{◌≡◌, refl, sym, ap, ◌∙◌, get_or, appen
 use Rattle.std.proofs.Math.Seq.{drop-cons, take-suc}
 use Rattle.std.proofs.lemmas.List.{append-nil, take_all, drop_all}
 use Rattle.std.proofs.lemmas.List.Sums.{prefix_len-le-length}
-use Rattle.cg_model.specs.Lining.{without_end, uncommented}
-use Rattle.cg_model.specs.Squeezing.{is_blank}
+use Rattle.cg_model_source.specs.Lining.{without_end, uncommented}
+use Rattle.cg_model_source.specs.Squeezing.{is_blank}
 
 pub at_most : (test : ℕ → Bool) (text : List ℕ) → prefix_len test text ≤ length text
 at_most test text = prefix_len-le-length test text

@@ -4,7 +4,7 @@ use Rattle.std.proofs.Common.{◌≡◌, refl, sym, ap, ◌∙◌}
 use Rattle.std.proofs.lemmas.Bool.{both_ways}
 use Rattle.cg_base.specs.Texts.{same_text, is_among}
 use Rattle.cg_lines.specs.Parts.{data_directives, room_directives}
-use Rattle.cg_model.specs.Lining.{Statement, directives, first_word, statement_in, with_name}
+use Rattle.cg_model_source.specs.Lining.{Statement, directives, first_word, statement_in, with_name}
 
 either_grouped : (a b c : Bool) → (a || (b || c)) ≡ ((a || b) || c)
 either_grouped true b c = refl

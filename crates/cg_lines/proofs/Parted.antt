@@ -4,7 +4,7 @@ use Rattle.std.specs.List.{prefix_len}
 use Rattle.std.proofs.Common.{◌≡◌, refl, sym, ap, ◌∙◌, get_or, append_assoc, arith}
 use Rattle.std.proofs.lemmas.List.{take_all}
 use Rattle.cg_model.specs.Formed.{begins_with_bar}
-use Rattle.cg_model.specs.Lining.{put_in_front, parted_at, parted_at_bars}
+use Rattle.cg_model_source.specs.Lining.{put_in_front, parted_at, parted_at_bars}
 use Rattle.cg_lines.specs.Parts.{bars_at}
 
 -- What stands behind a part: a byte that parts, and the other parts.

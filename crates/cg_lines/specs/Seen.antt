@@ -5,7 +5,7 @@ use Rattle.cg_lines.specs.declared.line.Labelled as declared
 use Rattle.cg_lines.specs.declared.line.Line as declared_line
 use Rattle.cg_lines.specs.declared.line.Statement as declared_statement
 use Rattle.cg_lines.specs.declared.line.Statement.TheVariants as lent
-use Rattle.cg_model.specs.Lining.{Labelled, Line, Statement, nothing, directive, bundle, parted_at_bars, trimmed_all}
+use Rattle.cg_model_source.specs.Lining.{Labelled, Line, Statement, nothing, directive, bundle, parted_at_bars, trimmed_all}
 
 abbrev pub seen_labelled : declared.Labelled → Labelled
 seen_labelled l = record { label = option_map seen_text l.label; rest = l.rest.now }

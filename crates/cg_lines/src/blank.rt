@@ -2,8 +2,8 @@
 
 ghost use Rattle.std.specs.Prelude.{◌≡◌, ◌≤◌, false, not, length};
 ghost use Rattle.std.specs.List.{prefix_len};
-ghost use Rattle.cg_model.specs.Lining as spec;
-ghost use Rattle.cg_model.specs.Squeezing as blanks;
+ghost use Rattle.cg_model_source.specs.Lining as spec;
+ghost use Rattle.cg_model_source.specs.Squeezing as blanks;
 
 /// Whether a character is a blank or a tab.
 pub fn is_blank(byte: u8) -> bool

@@ -5,8 +5,8 @@ ghost use Rattle.std.specs.List.{list_all, prefix_len};
 ghost use Rattle.cg_base.specs.Texts.{is_among};
 ghost use Rattle.cg_lines.specs.Parts.{data_directives, room_directives};
 ghost use Rattle.cg_lines.specs.Seen.{seen_labelled, seen_statement, seen_line};
-ghost use Rattle.cg_model.specs.Lining as spec;
-ghost use Rattle.cg_model.specs.Spelling.{is_in_label};
+ghost use Rattle.cg_model_source.specs.Lining as spec;
+ghost use Rattle.cg_model_source.specs.Spelling.{is_in_label};
 
 use crate::blank::{first_word, is_blank, trimmed, uncommented, without_front};
 use cg_spelling::{is_in_label, is_label};
@@ -169,7 +169,7 @@ fn statement_in(text: &[u8]) -> Statement<'_>
 
 /// What a line says: its label, and its statement, which ends at the first `;` outside a string
 /// (docs/ASSEMBLY.md, "Sources").
-#[tactic(auto, unfolding(cg_model::specs::Lining::read_line))]
+#[tactic(auto, unfolding(cg_model_source::specs::Lining::read_line))]
 pub fn read_line(line: &[u8]) -> Line<'_>
     ensures { seen_line result ≡ spec.read_line line.now }
 {

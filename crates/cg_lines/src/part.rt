@@ -5,7 +5,7 @@ ghost use Rattle.std.specs.List.{prefix_len};
 ghost use Rattle.cg_base.specs.Texts.{seen_text};
 ghost use Rattle.cg_lines.specs.Parts.{bars_at};
 ghost use Rattle.cg_model.specs.Formed.{begins_with_bar};
-ghost use Rattle.cg_model.specs.Lining as spec;
+ghost use Rattle.cg_model_source.specs.Lining as spec;
 
 use crate::blank::trimmed;
 use cg_base::NoMemory;

@@ -3,7 +3,7 @@ use Rattle.std.proofs.Common.{◌≡◌, ℕ, zero, suc, ◌+◌, ◌-◌, ◌<�
 use Rattle.std.proofs.lemmas.List.{get_or-drop}
 use Rattle.cg_model.specs.Clashing.{AreBytes}
 use Rattle.cg_model.specs.Encoding.{own_pc}
-use Rattle.cg_model.specs.Listing.{Decoder, Shown, shown, goes_on_by, bars_before, bundle_from, bundle_at, insn_at, showable, ListedLine, line_for, line_at, lines_from, listing}
+use Rattle.cg_model_source.specs.Listing.{Decoder, Shown, shown, goes_on_by, bars_before, bundle_from, bundle_at, insn_at, showable, ListedLine, line_for, line_at, lines_from, listing}
 use Rattle.cg_model.specs.Matching.{length_of}
 use Rattle.cg_model.specs.Slots.{values}
 use Rattle.cg_model.specs.declared.insn.Insn.{Insn}

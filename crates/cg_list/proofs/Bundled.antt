@@ -16,7 +16,7 @@ use Rattle.cg_code.proofs.Ranged.{held}
 use Rattle.cg_model.specs.Clashing.{length_at}
 use Rattle.cg_model.specs.Encoding.{own_pc, AreFor}
 use Rattle.cg_model.specs.Fields.{field_value, multi_value}
-use Rattle.cg_model.specs.Listing.{Decoder, Shown, shown, goes_on_by, bars_before, bundle_from, bundle_at, insn_at, is_showable, showable}
+use Rattle.cg_model_source.specs.Listing.{Decoder, Shown, shown, goes_on_by, bars_before, bundle_from, bundle_at, insn_at, is_showable, showable}
 use Rattle.cg_model.specs.Matching.{length_of, last_end, fields_of_parts, part_stands, asserts, matches}
 use Rattle.cg_model.specs.Slots.{slot_mode, slots_of, field_as, multi_as, fixed_value, source_value, values}
 use Rattle.cg_model.specs.Sound.{IsSound, SoundField, is_word}

@@ -5,9 +5,9 @@ use Rattle.std.proofs.lemmas.Bool.{cases_lt}
 use Rattle.std.proofs.lemmas.List.{take_all}
 use Rattle.cg_base.specs.Texts.{same_text}
 use Rattle.cg_base.specs.declared.refusal.Refusal.{Refusal}
-use Rattle.cg_model.specs.Choosing.{SourceFault}
+use Rattle.cg_model_source.specs.Choosing.{SourceFault}
 use Rattle.cg_model.specs.Encoding.{own_pc}
-use Rattle.cg_model.specs.Listing.{Decoder, Shown, ListedLine, gives, line_for, line_at, bundle_at}
+use Rattle.cg_model_source.specs.Listing.{Decoder, Shown, ListedLine, gives, line_for, line_at, bundle_at}
 use Rattle.cg_model.specs.Sound.{IsSound}
 use Rattle.cg_model.specs.declared.machine.Machine.{Machine}
 use Rattle.cg_syntax.specs.Faulting.{refusal_of}

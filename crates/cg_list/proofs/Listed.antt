@@ -5,10 +5,10 @@ use Rattle.std.proofs.lemmas.List.{drop_all}
 use Rattle.cg_listing.proofs.Assembled.{listing_gives_back}
 use Rattle.cg_model.specs.Clashing.{decoded_to}
 use Rattle.cg_model.specs.Formed.{IsFormed}
-use Rattle.cg_model.specs.Imaging.{image}
-use Rattle.cg_model.specs.Listing.{Decoder, ListedLine, line_at, lines_from, listing}
+use Rattle.cg_model_source.specs.Imaging.{image}
+use Rattle.cg_model_source.specs.Listing.{Decoder, ListedLine, line_at, lines_from, listing}
 use Rattle.cg_model.specs.Sound.{IsSound}
-use Rattle.cg_model.specs.Sourcing.{only_set}
+use Rattle.cg_model_source.specs.Sourcing.{only_set}
 use Rattle.cg_model.specs.declared.machine.Machine.{Machine}
 use Rattle.cg_syntax.specs.Laying.{HasBundleBit}
 use Rattle.cg_tree.proofs.Decoding.{tight_decodes}

@@ -1,7 +1,7 @@
 -- Bytes in hexadecimal digits, one behind the other.
 use Rattle.std.proofs.Common.{◌≡◌, ℕ, List, [], ◌∷◌, ◌++◌, append_assoc, append-nil, codes, sym, ap, ◌∙◌, refl}
 use Rattle.std.proofs.lemmas.Grind.{common_steps}
-use Rattle.cg_model.specs.Listing.{byte_text, byte_texts}
+use Rattle.cg_model_source.specs.Listing.{byte_text, byte_texts}
 use Rattle.cg_list.specs.Bundles.{texts_behind}
 
 regroup : (a b c d : List ℕ) → (a ++ b) ++ (c ++ d) ≡ a ++ ((b ++ c) ++ d)

@@ -3,7 +3,7 @@ use Rattle.std.specs.Prelude.{ℕ, ◌+◌, if◌then◌else◌, List, [], ◌�
 use Rattle.cg_code.specs.Coded.{values_at}
 use Rattle.cg_model.specs.Clashing.{length_at}
 use Rattle.cg_model.specs.Encoding.{own_pc}
-use Rattle.cg_model.specs.Listing.{Decoder, Shown, goes_on_by, bars_before, bundle_from, byte_text}
+use Rattle.cg_model_source.specs.Listing.{Decoder, Shown, goes_on_by, bars_before, bundle_from, byte_text}
 use Rattle.cg_model.specs.declared.machine.Machine.{Machine}
 use Rattle.cg_syntax.specs.Showing.{shown_at}
 

@@ -1,7 +1,7 @@
 -- Bundles and lines as the definitions of listings have them.
 use Rattle.cg_list.specs.declared.bundle.Shown as code_bundle
 use Rattle.cg_list.specs.declared.line.Line as code_line
-use Rattle.cg_model.specs.Listing.{Shown, ListedLine}
+use Rattle.cg_model_source.specs.Listing.{Shown, ListedLine}
 
 abbrev pub seen : code_bundle.Shown → Shown
 seen s = record { text = s.text; size = s.size }

@@ -6,7 +6,7 @@ ghost use Rattle.std.specs.Option.{option_copied, option_map};
 ghost use Rattle.cg_code.specs.Coded.{matches_at, values_at};
 ghost use Rattle.cg_list.specs.Seen.{seen};
 ghost use Rattle.cg_model.specs.Encoding.{own_pc};
-ghost use Rattle.cg_model.specs.Listing as spec;
+ghost use Rattle.cg_model_source.specs.Listing as spec;
 ghost use Rattle.cg_model.specs.Sound.{IsSound, SoundField};
 ghost use Rattle.cg_syntax.specs.Laying.{HasBundleBit};
 ghost use Rattle.cg_syntax.specs.Showing.{shown_at};

@@ -4,7 +4,7 @@ ghost use Rattle.std.specs.Prelude.{◌≡◌, ◌<◌, ◌++◌, OnOk};
 ghost use Rattle.std.specs.Char.{digit_char};
 ghost use Rattle.std.specs.List.{flat_map};
 ghost use Rattle.cg_base.specs.Faults.{hex_byte};
-ghost use Rattle.cg_model.specs.Listing.{byte_text, byte_texts};
+ghost use Rattle.cg_model_source.specs.Listing.{byte_text, byte_texts};
 ghost use Rattle.cg_list.specs.Bundles.{texts_behind};
 
 use cg_base::{NoMemory, Text};

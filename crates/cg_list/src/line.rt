@@ -5,9 +5,9 @@ ghost use Rattle.std.specs.Option.{option_copied, option_map};
 ghost use Rattle.cg_base.specs.Texts.{same_text};
 ghost use Rattle.cg_choosing.specs.Indexing.{IsIndex, GivesAll};
 ghost use Rattle.cg_list.specs.Seen.{seen, seen_line};
-ghost use Rattle.cg_model.specs.Listing as spec;
+ghost use Rattle.cg_model_source.specs.Listing as spec;
 ghost use Rattle.cg_model.specs.Sound.{IsSound};
-ghost use Rattle.cg_model.specs.Stating.{stated};
+ghost use Rattle.cg_model_source.specs.Stating.{stated};
 ghost use Rattle.cg_syntax.specs.Laying.{HasBundleBit};
 ghost use Rattle.cg_tree.specs.Finding.{found};
 

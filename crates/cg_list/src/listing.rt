@@ -2,10 +2,10 @@ ghost use Rattle.std.specs.Prelude.{◌≡◌, ◌+◌, ◌^◌, ◌≤◌, leng
 ghost use Rattle.cg_choosing.specs.Indexing.{IsIndex, GivesAll};
 ghost use Rattle.cg_model.specs.Clashing.{decoded_to};
 ghost use Rattle.cg_model.specs.Formed.{IsFormed};
-ghost use Rattle.cg_model.specs.Imaging as spec;
-ghost use Rattle.cg_model.specs.Listing.{listing};
+ghost use Rattle.cg_model_source.specs.Imaging as spec;
+ghost use Rattle.cg_model_source.specs.Listing.{listing};
 ghost use Rattle.cg_model.specs.Sound.{IsSound};
-ghost use Rattle.cg_model.specs.Sourcing.{only_set};
+ghost use Rattle.cg_model_source.specs.Sourcing.{only_set};
 ghost use Rattle.cg_syntax.specs.Laying.{HasBundleBit};
 ghost use Rattle.cg_tree.specs.Finding.{found, IsTight};
 

@@ -5,14 +5,14 @@ use Rattle.std.specs.List.{list_all}
 use Rattle.std.proofs.lemmas.Bool.{le-ltb}
 use Rattle.std.proofs.lemmas.List.{length-take, take-append-drop, drop_all}
 use Rattle.cg_base.specs.Refusing.{first}
-use Rattle.cg_model.specs.Choosing.{alone}
+use Rattle.cg_model_source.specs.Choosing.{alone}
 use Rattle.cg_model.specs.Clashing.{AreBytes}
 use Rattle.cg_model.specs.Formed.{IsFormed}
-use Rattle.cg_model.specs.Imaging.{SourceRefusal, Laid, laid, Layout, laid_before, unless_refused, layout_from, items_bytes, in_front, unless_unfit, joined, image_of, image_from, image}
-use Rattle.cg_model.specs.Lining.{parted_at, read_line}
-use Rattle.cg_model.specs.Listing.{Decoder, ListedLine, line_at, lines_from, listing}
+use Rattle.cg_model_source.specs.Imaging.{SourceRefusal, Laid, laid, Layout, laid_before, unless_refused, layout_from, items_bytes, in_front, unless_unfit, joined, image_of, image_from, image}
+use Rattle.cg_model_source.specs.Lining.{parted_at, read_line}
+use Rattle.cg_model_source.specs.Listing.{Decoder, ListedLine, line_at, lines_from, listing}
 use Rattle.cg_model.specs.Sound.{IsSound}
-use Rattle.cg_model.specs.Sourcing.{only_set, parts, reading, place_after}
+use Rattle.cg_model_source.specs.Sourcing.{only_set, parts, reading, place_after}
 use Rattle.cg_model.specs.declared.machine.Machine.{Machine}
 use Rattle.cg_listing.proofs.Reading.{parted_behind}
 use Rattle.cg_listing.proofs.Sizes.{HasNearBit}

@@ -8,24 +8,24 @@ use Rattle.std.proofs.lemmas.List.{length-append, length-take, take_min}
 use Rattle.cg_base.specs.Faults.{hex_byte}
 use Rattle.cg_base.specs.Numerals.{hex_text}
 use Rattle.cg_base.specs.Refusing.{first}
-use Rattle.cg_model.specs.Bundling.{BundlePart}
-use Rattle.cg_model.specs.Choosing.{alone}
+use Rattle.cg_model_source.specs.Bundling.{BundlePart}
+use Rattle.cg_model_source.specs.Choosing.{alone}
 use Rattle.cg_model.specs.Encoding.{own_pc}
 use Rattle.cg_model.specs.Formed.{IsFormed, is_cpu_word}
-use Rattle.cg_model.specs.Imaging.{reading_faults, line_fault, items_bytes}
-use Rattle.cg_model.specs.Lining.{is_line_byte, is_readable, read_line}
-use Rattle.cg_model.specs.Listing.{Decoder, Shown, ListedLine, byte_texts, gives, listed, besides, as_bytes, line_for, line_at, bundle_at}
+use Rattle.cg_model_source.specs.Imaging.{reading_faults, line_fault, items_bytes}
+use Rattle.cg_model_source.specs.Lining.{is_line_byte, is_readable, read_line}
+use Rattle.cg_model_source.specs.Listing.{Decoder, Shown, ListedLine, byte_texts, gives, listed, besides, as_bytes, line_for, line_at, bundle_at}
 use Rattle.cg_model.specs.Sound.{IsSound}
-use Rattle.cg_model.specs.Sourcing.{only_set, Content, order, parts, data_of, content_of, Reading, reading_of, reading, items_of, items_size, machine_after, place_after}
-use Rattle.cg_model.specs.Stating.{stated, parts_bytes}
-use Rattle.cg_model.specs.source.E601.{unknown_texts}
-use Rattle.cg_model.specs.source.E602.{unfit_texts}
-use Rattle.cg_model.specs.source.E604.{undefined_items}
-use Rattle.cg_model.specs.source.E605.{unfit_items}
-use Rattle.cg_model.specs.source.E606.{below_address}
-use Rattle.cg_model.specs.source.E607.{too_large}
-use Rattle.cg_model.specs.source.E608.{malformed_line, malformed_content}
-use Rattle.cg_model.specs.source.E609.{too_wide_content}
+use Rattle.cg_model_source.specs.Sourcing.{only_set, Content, order, parts, data_of, content_of, Reading, reading_of, reading, items_of, items_size, machine_after, place_after}
+use Rattle.cg_model_source.specs.Stating.{stated, parts_bytes}
+use Rattle.cg_model_source.specs.E601.{unknown_texts}
+use Rattle.cg_model_source.specs.E602.{unfit_texts}
+use Rattle.cg_model_source.specs.E604.{undefined_items}
+use Rattle.cg_model_source.specs.E605.{unfit_items}
+use Rattle.cg_model_source.specs.E606.{below_address}
+use Rattle.cg_model_source.specs.E607.{too_large}
+use Rattle.cg_model_source.specs.E608.{malformed_line, malformed_content}
+use Rattle.cg_model_source.specs.E609.{too_wide_content}
 use Rattle.cg_model.specs.declared.machine.Machine.{Machine}
 use Rattle.cg_listing.proofs.Shown.{is_plain_byte, append_kept, hex_plain, Ready, AllReady, bundle_ready}
 use Rattle.cg_listing.proofs.Reading.{shown_line, reads_as, line_byte}

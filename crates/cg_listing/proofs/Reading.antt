@@ -2,9 +2,9 @@
 use Rattle.std.proofs.Common.{◌≡◌, ℕ, suc, ◌+◌, Bool, true, false, not, ◌&&◌, ◌==◌, cond, if◌then◌else◌, List, [], ◌∷◌, ◌++◌, take, drop, Some, None, codes, sym, ap, ◌∙◌, refl, arith}
 use Rattle.std.specs.List.{list_all, prefix_len, take_while}
 use Rattle.std.proofs.lemmas.Bool.{and_parts, not-true, eq-eqb}
-use Rattle.cg_model.specs.Lining.{is_line_byte, without_front, without_end, trimmed, uncommented, put_in_front, parted_at, Labelled, unlabelled, ends_label, label_before, label_in, labelled, statement_in, Line, line_of, read_line}
-use Rattle.cg_model.specs.Spelling.{is_label, is_in_label}
-use Rattle.cg_model.specs.Squeezing.{is_blank}
+use Rattle.cg_model_source.specs.Lining.{is_line_byte, without_front, without_end, trimmed, uncommented, put_in_front, parted_at, Labelled, unlabelled, ends_label, label_before, label_in, labelled, statement_in, Line, line_of, read_line}
+use Rattle.cg_model_source.specs.Spelling.{is_label, is_in_label}
+use Rattle.cg_model_source.specs.Squeezing.{is_blank}
 use Rattle.cg_listing.proofs.Shown.{is_plain_byte}
 
 -- ---- blanks in front and behind

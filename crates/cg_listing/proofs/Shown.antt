@@ -11,11 +11,11 @@ use Rattle.cg_base.specs.Numerals.{hex_text}
 use Rattle.cg_base.specs.Operations.{as_signed}
 use Rattle.cg_model.specs.Encoding.{own_pc}
 use Rattle.cg_model.specs.Formed.{IsFormed, is_literal_byte, has_bars, is_piece, is_insn, is_word, are_words, is_hardware, is_formed, is_formed_where}
-use Rattle.cg_model.specs.Lining.{is_line_byte}
-use Rattle.cg_model.specs.Listing.{Decoder, Shown, word_for, is_address, shown_by, shown_value, shown_slot, shown_mark, shown_before, shown_marks, shown, insn_at, goes_on_by, bars_before, bundle_from, bundle_at, is_showable, showable}
+use Rattle.cg_model_source.specs.Lining.{is_line_byte}
+use Rattle.cg_model_source.specs.Listing.{Decoder, Shown, word_for, is_address, shown_by, shown_value, shown_slot, shown_mark, shown_before, shown_marks, shown, insn_at, goes_on_by, bars_before, bundle_from, bundle_at, is_showable, showable}
 use Rattle.cg_model.specs.Matching.{length_of, last_end, fields_of_parts}
 use Rattle.cg_model.specs.Slots.{slot_mode, slots_of, values}
-use Rattle.cg_model.specs.Squeezing.{is_blank_mark, is_joining_mark, goes_on, put_first, words, begins, ends, behind, spaced, marks, squeezed_syntax}
+use Rattle.cg_model_source.specs.Squeezing.{is_blank_mark, is_joining_mark, goes_on, put_first, words, begins, ends, behind, spaced, marks, squeezed_syntax}
 use Rattle.cg_base.specs.Characters.{is_in_word}
 use Rattle.cg_model.specs.declared.hardware.Hardware.{Hardware}
 use Rattle.cg_model.specs.declared.hardware.Keyword.{Keyword}
@@ -25,8 +25,8 @@ use Rattle.cg_model.specs.declared.insn.Piece.{Piece}
 use Rattle.cg_model.specs.declared.insn.Piece.TheVariants as piece
 use Rattle.cg_model.specs.declared.machine.Machine.{Machine}
 use Rattle.cg_model.specs.declared.operand.Operand.{Operand}
-use Rattle.cg_model.specs.declared.written.Mark.{Mark}
-use Rattle.cg_model.specs.declared.written.Mark.TheVariants.{Byte, Slot}
+use Rattle.cg_model_source.specs.declared.written.Mark.{Mark}
+use Rattle.cg_model_source.specs.declared.written.Mark.TheVariants.{Byte, Slot}
 
 -- ---- bytes
 

@@ -6,8 +6,8 @@ use Rattle.std.proofs.lemmas.List.{length-append, length-drop, length-take-le}
 use Rattle.cg_base.specs.Bytes.{bytes_of}
 use Rattle.cg_base.specs.declared.mode.Endian.{Endian}
 use Rattle.cg_base.specs.declared.mode.Endian.TheVariants.{Big, Little}
-use Rattle.cg_model.specs.Bundling.{with_bundle_bit, instruction_bytes}
-use Rattle.cg_model.specs.Choosing.{Choice, bytes_for, values_for}
+use Rattle.cg_model_source.specs.Bundling.{with_bundle_bit, instruction_bytes}
+use Rattle.cg_model_source.specs.Choosing.{Choice, bytes_for, values_for}
 use Rattle.cg_model.specs.Covers.{is_near}
 use Rattle.cg_model.specs.Encoding.{Setting, settings, word_with, with_word, with_bits, with_all, in_place, candidate, own_pc}
 use Rattle.cg_model.specs.Fields.{word_of}

@@ -6,29 +6,29 @@ use Rattle.std.specs.Option.{unwrap_or}
 use Rattle.std.proofs.lemmas.Bool.{false≢true}
 use Rattle.std.proofs.lemmas.List.{length-append}
 use Rattle.cg_base.specs.Refusing.{first}
-use Rattle.cg_model.specs.Bundling.{BundlePart, empty, refused, stands, chosen_part, part_of, parts_at, part_size, instruction_bytes}
-use Rattle.cg_model.specs.Choosing.{Choice, SourceFault, Objection, as_written, split_by_insn, insns_splitting, as_emitted, split_by_macro, macros_splitting, splitting, known_number, known, known_all, objection, choice_objection, fits, unchosen, chosen_of, chosen}
-use Rattle.cg_model.specs.Lining.{Statement, nothing, directive, bundle, is_readable, read_line}
-use Rattle.cg_model.specs.Listing.{gives}
+use Rattle.cg_model_source.specs.Bundling.{BundlePart, empty, refused, stands, chosen_part, part_of, parts_at, part_size, instruction_bytes}
+use Rattle.cg_model_source.specs.Choosing.{Choice, SourceFault, Objection, as_written, split_by_insn, insns_splitting, as_emitted, split_by_macro, macros_splitting, splitting, known_number, known, known_all, objection, choice_objection, fits, unchosen, chosen_of, chosen}
+use Rattle.cg_model_source.specs.Lining.{Statement, nothing, directive, bundle, is_readable, read_line}
+use Rattle.cg_model_source.specs.Listing.{gives}
 use Rattle.cg_model.specs.Matching.{length_of}
-use Rattle.cg_model.specs.Sourcing.{only_set, all_keywords, Place, parts, content_of, is_more, parts_items, items_size, address_of}
-use Rattle.cg_model.specs.Imaging.{items_bytes}
+use Rattle.cg_model_source.specs.Sourcing.{only_set, all_keywords, Place, parts, content_of, is_more, parts_items, items_size, address_of}
+use Rattle.cg_model_source.specs.Imaging.{items_bytes}
 use Rattle.cg_model.specs.Sound.{IsSound}
-use Rattle.cg_model.specs.Spelling.{keywords, with_addresses}
-use Rattle.cg_model.specs.Splitting.{Spelling}
-use Rattle.cg_model.specs.Squeezing.{squeezed}
-use Rattle.cg_model.specs.Stating.{defined_label, all_named_labels, statement_faults, parts_bytes, unless_at_fault, stated_parts, stated_line, stated}
-use Rattle.cg_model.specs.source.E601.{unknown_parts}
-use Rattle.cg_model.specs.source.E602.{unfit_parts}
-use Rattle.cg_model.specs.source.E604.{undefined_terms, undefined_sums, undefined_items}
-use Rattle.cg_model.specs.source.E605.{numbers_with, objected, unfit_items}
-use Rattle.cg_model.specs.source.E608.{malformed_line, empty_parts}
-use Rattle.cg_model.specs.source.E609.{too_wide}
+use Rattle.cg_model_source.specs.Spelling.{keywords, with_addresses}
+use Rattle.cg_model_source.specs.Splitting.{Spelling}
+use Rattle.cg_model_source.specs.Squeezing.{squeezed}
+use Rattle.cg_model_source.specs.Stating.{defined_label, all_named_labels, statement_faults, parts_bytes, unless_at_fault, stated_parts, stated_line, stated}
+use Rattle.cg_model_source.specs.E601.{unknown_parts}
+use Rattle.cg_model_source.specs.E602.{unfit_parts}
+use Rattle.cg_model_source.specs.E604.{undefined_terms, undefined_sums, undefined_items}
+use Rattle.cg_model_source.specs.E605.{numbers_with, objected, unfit_items}
+use Rattle.cg_model_source.specs.E608.{malformed_line, empty_parts}
+use Rattle.cg_model_source.specs.E609.{too_wide}
 use Rattle.cg_model.specs.declared.insn.Insn.{Insn}
 use Rattle.cg_model.specs.declared.insn.MacroInsn.{MacroInsn}
 use Rattle.cg_model.specs.declared.machine.Machine.{Machine}
-use Rattle.cg_model.specs.declared.written.Sum.{Sum}
-use Rattle.cg_model.specs.declared.written.Term.{Term}
+use Rattle.cg_model_source.specs.declared.written.Sum.{Sum}
+use Rattle.cg_model_source.specs.declared.written.Term.{Term}
 use Rattle.cg_listing.proofs.Sizes.{HasNearBit, instruction_long}
 
 -- ---- what is chosen fits, and has 16 bytes at most

@@ -13,18 +13,18 @@ use Rattle.cg_base.specs.Operations.{wrapped}
 use Rattle.cg_base.specs.Texts.{same_text}
 use Rattle.cg_base.specs.declared.mode.Endian.{Endian}
 use Rattle.cg_base.specs.declared.mode.Endian.TheVariants.{Big, Little}
-use Rattle.cg_model.specs.Choosing.{SourceFault, is_within}
-use Rattle.cg_model.specs.Imaging.{items_bytes}
-use Rattle.cg_model.specs.Lining.{without_front, without_end, trimmed, trimmed_all, uncommented, parted_at, put_in_front, directive, statement_in, read_line}
-use Rattle.cg_model.specs.Listing.{byte_text, byte_texts}
-use Rattle.cg_model.specs.Sourcing.{InstructionSets, Order, data_of, malformed, sums_of, sum_in_front, order_of, all_keywords, data_items, items_size}
-use Rattle.cg_model.specs.Spelling.{Signed, Parted, is_sign, is_label, is_keyword, part_off, go_on, parted, parts_of, sum_parts, just, plus, plus_number, plus_label, summed, sum_of}
-use Rattle.cg_model.specs.Squeezing.{is_blank, ends}
-use Rattle.cg_model.specs.source.E602.{unfit_sums, unfit_number}
-use Rattle.cg_model.specs.source.E604.{undefined_items}
-use Rattle.cg_model.specs.source.E605.{unfit_items}
+use Rattle.cg_model_source.specs.Choosing.{SourceFault, is_within}
+use Rattle.cg_model_source.specs.Imaging.{items_bytes}
+use Rattle.cg_model_source.specs.Lining.{without_front, without_end, trimmed, trimmed_all, uncommented, parted_at, put_in_front, directive, statement_in, read_line}
+use Rattle.cg_model_source.specs.Listing.{byte_text, byte_texts}
+use Rattle.cg_model_source.specs.Sourcing.{InstructionSets, Order, data_of, malformed, sums_of, sum_in_front, order_of, all_keywords, data_items, items_size}
+use Rattle.cg_model_source.specs.Spelling.{Signed, Parted, is_sign, is_label, is_keyword, part_off, go_on, parted, parts_of, sum_parts, just, plus, plus_number, plus_label, summed, sum_of}
+use Rattle.cg_model_source.specs.Squeezing.{is_blank, ends}
+use Rattle.cg_model_source.specs.E602.{unfit_sums, unfit_number}
+use Rattle.cg_model_source.specs.E604.{undefined_items}
+use Rattle.cg_model_source.specs.E605.{unfit_items}
 use Rattle.cg_model.specs.declared.machine.Machine.{Machine}
-use Rattle.cg_model.specs.declared.written.Sum.{Sum}
+use Rattle.cg_model_source.specs.declared.written.Sum.{Sum}
 use Rattle.cg_listing.proofs.Shown.{is_plain_byte, append_kept}
 use Rattle.cg_listing.proofs.Reading.{front_blank, front_other, without_comment, says, parted_behind, parted_alone}
 

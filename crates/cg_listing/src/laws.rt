@@ -1,10 +1,10 @@
 ghost use Rattle.std.specs.Prelude.{◌≡◌, ℕ, ◌+◌, ◌^◌, ◌≤◌, List, length, Some, slice_get, Ok};
 ghost use Rattle.cg_model.specs.Clashing.{AreBytes};
 ghost use Rattle.cg_model.specs.Formed.{IsFormed};
-ghost use Rattle.cg_model.specs.Imaging as spec;
-ghost use Rattle.cg_model.specs.Listing.{Decoder, listing};
+ghost use Rattle.cg_model_source.specs.Imaging as spec;
+ghost use Rattle.cg_model_source.specs.Listing.{Decoder, listing};
 ghost use Rattle.cg_model.specs.Sound.{IsSound};
-ghost use Rattle.cg_model.specs.Sourcing.{only_set};
+ghost use Rattle.cg_model_source.specs.Sourcing.{only_set};
 ghost use Rattle.cg_model.specs.declared.field.Field.{Field};
 
 use cg_model::Machine;

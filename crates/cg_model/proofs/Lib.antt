@@ -1,3 +1,2 @@
-pub mod Meanings
-pub mod Turns
 pub mod FieldBits
+pub mod Meanings

@@ -1,12 +1,9 @@
 -- Laws of meanings: an equation at each expression, and that a meaning is judged as its expression is.
-use Rattle.std.proofs.Common.{◌≡◌, ℕ, suc, Bool, ◌∙◌, sym, refl, ap, subst, List, [], ◌∷◌, map, Option, ℤ}
+use Rattle.std.proofs.Common.{◌≡◌, Bool, ◌∙◌, sym, refl, ap, subst, List, [], ◌∷◌, map, Option, ℤ}
 use Rattle.cg_base.specs.declared.Mode.{Mode}
 use Rattle.cg_model.specs.Checked.{Checked, Locals, checked, checked_step, verdict_of}
 use Rattle.cg_model.specs.Values.{Meaning, Way, Steps, meaning, meaning_step, at_once}
 use Rattle.cg_model.specs.Pure.{Around, pure_gives, pure_steps, pure_meaning, is_pure, pure_step}
-use Rattle.cg_model.specs.Slots.{Named, in_rule}
-use Rattle.cg_model.specs.Asking.{Held}
-use Rattle.cg_model.specs.Effects.{Before, Rules, in_turn, effect_gives, effect_steps, effect_meaning, rules_within, alone}
 use Rattle.cg_model.specs.declared.machine.Machine.{Machine}
 use Rattle.cg_model.specs.declared.rtl.Op.{Op}
 use Rattle.cg_model.specs.declared.rtl.Rtl.{Rtl, out-Rtl, roll-Rtl, out-roll-Rtl}
@@ -79,10 +76,6 @@ pub pure_checked : (m : Machine) (a : Around) (r : Rtl) → (pure_meaning m a r)
 unfolding pure_meaning
 pure_checked m a r = meaning_checked m at_once (pure_steps m a) r
 
-pub effect_checked : (m : Machine) (b : Before) (rules : Rules) (names : Named) (r : Rtl) → (effect_meaning m b rules names r).checked ≡ checked m r
-unfolding effect_meaning
-effect_checked m b rules names r = meaning_checked m in_turn (effect_steps m b rules names) r
-
 pub pure_out : (m : Machine) (a : Around) (r : Rtl) (l : Locals) (want : Option Mode) → (pure_meaning m a r).gives l want ≡ pure_gives m a (out-Rtl r).op (out-Rtl r).mode (out-Rtl r).number (map (pure_meaning m a) (out-Rtl r).items) l want
 unfolding pure_meaning
 pure_out m a r l want = gives_out m at_once (pure_steps m a) r l want
@@ -94,31 +87,12 @@ pub pure_at : (m : Machine) (a : Around) (o : Op) (mode : Option Mode) (n : ℤ)
 unfolding pure_meaning
 pure_at m a o mode n items = meaning_at m at_once (pure_steps m a) o mode n items
 
-pub effect_out : (m : Machine) (b : Before) (rules : Rules) (names : Named) (r : Rtl) (l : Locals) (want : Option Mode) → (effect_meaning m b rules names r).gives l want ≡ effect_gives m b rules names (out-Rtl r).op (out-Rtl r).mode (out-Rtl r).number (map (effect_meaning m b rules names) (out-Rtl r).items) l want
-unfolding effect_meaning
-effect_out m b rules names r l want = gives_out m in_turn (effect_steps m b rules names) r l want
-
-pub effect_at : (m : Machine) (b : Before) (rules : Rules) (names : Named) (o : Op) (mode : Option Mode) (n : ℤ) (items : List Rtl) → effect_meaning m b rules names (roll-Rtl (record { op = o; mode = mode; number = n; items = items })) ≡ meaning_step m in_turn (effect_steps m b rules names) (record { op = o; mode = mode; number = n; items = map (effect_meaning m b rules names) items })
-unfolding effect_meaning
-effect_at m b rules names o mode n items = meaning_at m in_turn (effect_steps m b rules names) o mode n items
-
 -- The same at what an expression gives.
 pub pure_gives_at : (m : Machine) (a : Around) (o : Op) (mode : Option Mode) (n : ℤ) (items : List Rtl) (l : Locals) (want : Option Mode) → (pure_meaning m a (roll-Rtl (record { op = o; mode = mode; number = n; items = items }))).gives l want ≡ pure_gives m a o mode n (map (pure_meaning m a) items) l want
 pure_gives_at m a o mode n items l want = ap (λ c. c.gives l want) (pure_at m a o mode n items)
 
-pub effect_gives_at : (m : Machine) (b : Before) (rules : Rules) (names : Named) (o : Op) (mode : Option Mode) (n : ℤ) (items : List Rtl) (l : Locals) (want : Option Mode) (h : Held) → (effect_meaning m b rules names (roll-Rtl (record { op = o; mode = mode; number = n; items = items }))).gives l want h ≡ effect_gives m b rules names o mode n (map (effect_meaning m b rules names) items) l want h
-effect_gives_at m b rules names o mode n items l want h = ap (λ c. c.gives l want h) (effect_at m b rules names o mode n items)
-
--- A rule that is put in place.
-pub rule_at : (n : ℕ) (m : Machine) (b : Before) (rule : Rtl) (want : Option Mode) (index new : ℕ) (h : Held) → rules_within (suc n) m b rule want index new h ≡ alone ((effect_meaning m b (rules_within n m b) (in_rule m index new) rule).gives [] want) h
-unfolding rules_within
-rule_at n m b rule want index new h = refl
-
-pub outer_rule_at : (m : Machine) (b : Before) (rule : Rtl) (want : Option Mode) (index new : ℕ) (h : Held) → rules_within 64 m b rule want index new h ≡ alone ((effect_meaning m b (rules_within 63 m b) (in_rule m index new) rule).gives [] want) h
-outer_rule_at m b rule want index new h = rule_at 63 m b rule want index new h
-
 -- What computes an expression that is written out.
-pub ruleset written_out = (pure_at, pure_gives_at, effect_at, effect_gives_at, outer_rule_at, out_at, verdict_at, said_at, checked_at)
+pub ruleset written_out = (pure_at, pure_gives_at, out_at, verdict_at, said_at, checked_at)
 
 pub pure_says : (r : Rtl) → is_pure r ≡ pure_step (map-Rtl Rtl Bool is_pure (out-Rtl r))
 unfolding is_pure

@@ -1,4 +1,5 @@
 pub mod Operators
+pub mod Words
 pub mod Placed
 pub mod Checked
 pub mod Values
@@ -10,18 +11,4 @@ pub mod Covers
 pub mod Encoding
 pub mod Clashing
 pub mod Sound
-pub mod Asking
-pub mod Effects
-pub mod faults
 pub mod Formed
-pub mod Squeezing
-pub mod Spelling
-pub mod Splitting
-pub mod Choosing
-pub mod Lining
-pub mod Bundling
-pub mod Sourcing
-pub mod source
-pub mod Stating
-pub mod Imaging
-pub mod Listing

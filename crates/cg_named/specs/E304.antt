@@ -12,7 +12,7 @@ use Rattle.cg_element.specs.declared.kind.Kind.TheVariants.{Derived}
 use Rattle.cg_element.specs.declared.kind.Namespace.TheVariants.{Operands}
 use Rattle.cg_element.specs.Elements.{kind_of}
 use Rattle.cg_model.specs.declared.machine.Machine.{Machine}
-use Rattle.cg_model.specs.faults.E304.{no_cell_at}
+use Rattle.cg_model_faults.specs.E304.{no_cell_at}
 use Rattle.cg_names.specs.declared.scope.Scope.{Scope}
 use Rattle.cg_known.specs.Table.{Table, gives_isa}
 use Rattle.cg_references.specs.Finding.{stands_as}

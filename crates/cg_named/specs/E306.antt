@@ -11,7 +11,7 @@ use Rattle.cg_element.specs.declared.element.Element.{Element}
 use Rattle.cg_element.specs.Elements.{kind_of}
 use Rattle.cg_model.specs.declared.machine.Machine.{Machine}
 use Rattle.cg_model.specs.declared.rtl.Op.{Op}
-use Rattle.cg_model.specs.faults.E306.{Nameable, stray_at}
+use Rattle.cg_model_faults.specs.E306.{Nameable, stray_at}
 use Rattle.cg_names.specs.declared.scope.Scope.{Scope}
 use Rattle.cg_known.specs.Table.{Table}
 use Rattle.cg_references.specs.Clauses.{clauses_of}

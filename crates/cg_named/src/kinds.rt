@@ -7,7 +7,7 @@ ghost use Rattle.cg_base.specs.Refusing.{first};
 ghost use Rattle.cg_attrs.specs.Clauses.{seen_clause};
 ghost use Rattle.cg_described.specs.Seen.{seen_described};
 ghost use Rattle.cg_known.specs.Table.{known};
-ghost use Rattle.cg_model.specs.faults.E304.{no_cell_at};
+ghost use Rattle.cg_model_faults.specs.E304.{no_cell_at};
 ghost use Rattle.cg_named.specs.E304 as spec;
 ghost use Rattle.cg_references.specs.E304.{is_other, is_of_another_kind};
 ghost use Rattle.cg_said.specs.Saying.{fault_said};

@@ -7,7 +7,7 @@ ghost use Rattle.cg_base.specs.Refusing.{first};
 ghost use Rattle.cg_attrs.specs.Clauses.{seen_clause};
 ghost use Rattle.cg_expressions.specs.Asking.{nameable};
 ghost use Rattle.cg_known.specs.Table.{known};
-ghost use Rattle.cg_model.specs.faults.E306.{stray_at};
+ghost use Rattle.cg_model_faults.specs.E306.{stray_at};
 ghost use Rattle.cg_named.specs.E306 as spec;
 ghost use Rattle.cg_purity.specs.Named as named;
 ghost use Rattle.cg_references.specs.E306.{is_nothing, is_undefined};

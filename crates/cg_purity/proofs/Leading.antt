@@ -6,7 +6,7 @@ use Rattle.std.proofs.lemmas.Grind.{common_steps}
 use Rattle.cg_model.specs.Placed.{is_set, RuleName, AsPlace, needed_at, each_needed, needed_step, needed_by, rule_named, needed_where, needed}
 use Rattle.cg_model.specs.declared.machine.Machine.{Machine}
 use Rattle.cg_model.specs.declared.rtl.Rtl.{Rtl, out-Rtl, fold_out-Rtl}
-use Rattle.cg_model.specs.faults.E314.{is_same, one_leads, leads_in, needs}
+use Rattle.cg_model_faults.specs.E314.{is_same, one_leads, leads_in, needs}
 use Rattle.cg_purity.specs.Tables.{in_row, in_table, leads_by, IsRow, IsNext, Knows}
 use Rattle.cg_purity.specs.declared.rule.Table.{Table}
 

@@ -4,8 +4,8 @@ use Rattle.std.proofs.lemmas.Grind.{common_steps}
 use Rattle.cg_model.specs.Covers.{all_bits}
 use Rattle.cg_model.specs.declared.machine.Machine.{Machine}
 use Rattle.cg_model.specs.declared.rtl.Rtl.{Rtl, out-Rtl, fold_out-Rtl}
-use Rattle.cg_model.specs.faults.E306.{Within, each_within, declared_by, unnamed_at, unnamed_step, unnamed_in}
-use Rattle.cg_model.specs.faults.E315.{bits_at_op, bits_step, bits_named}
+use Rattle.cg_model_faults.specs.E306.{Within, each_within, declared_by, unnamed_at, unnamed_step, unnamed_in}
+use Rattle.cg_model_faults.specs.E315.{bits_at_op, bits_step, bits_named}
 use Rattle.cg_purity.proofs.Nodes.{first_append}
 use Rattle.cg_view.proofs.Formats.{or_assoc, or_zero, zero_or}
 

@@ -4,7 +4,7 @@ use Rattle.std.specs.Option.{option_or}
 use Rattle.std.proofs.lemmas.Grind.{common_steps}
 use Rattle.cg_base.specs.Refusing.{first}
 use Rattle.cg_model.specs.declared.rtl.Rtl.{Rtl, out-Rtl, fold_out-Rtl}
-use Rattle.cg_model.specs.faults.Finding.{Faults, AtNode, of_each, node_step, in_nodes, stands_in}
+use Rattle.cg_model_faults.specs.Finding.{Faults, AtNode, of_each, node_step, in_nodes, stands_in}
 
 pub first_append : {A : Type 0} (xs ys : List A) → first (xs ++ ys) ≡ option_or (first xs) (first ys)
 first_append [] ys = refl

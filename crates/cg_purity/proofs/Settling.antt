@@ -5,7 +5,7 @@ use Rattle.std.proofs.lemmas.Option.{slice_get_past}
 use Rattle.std.proofs.lemmas.Grind.{common_steps}
 use Rattle.cg_model.specs.declared.machine.Machine.{Machine}
 use Rattle.cg_model.specs.Placed.{RuleName, rule_named, needed}
-use Rattle.cg_model.specs.faults.E314.{leads_in, needs}
+use Rattle.cg_model_faults.specs.E314.{leads_in, needs}
 use Rattle.cg_purity.specs.Tables.{in_table, IsNext, Knows, IsAlike, AreAlike}
 use Rattle.cg_purity.specs.declared.rule.Table.{Table}
 use Rattle.cg_purity.proofs.Leading.{leads_alike, unled, unruled, knows_start, knows_round, knows_next, knows_all}

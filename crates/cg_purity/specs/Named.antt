@@ -1,6 +1,6 @@
 -- What an expression may name where it stands.
 use Rattle.cg_model.specs.declared.machine.Machine.{Machine}
-use Rattle.cg_model.specs.faults.E306.{Nameable, in_semantics, in_assertion, in_hardware}
+use Rattle.cg_model_faults.specs.E306.{Nameable, in_semantics, in_assertion, in_hardware}
 use Rattle.cg_purity.specs.declared.names.Standing.{Standing}
 use Rattle.cg_purity.specs.declared.names.Standing.TheVariants.{Semantics, Assertion, Hardware}
 

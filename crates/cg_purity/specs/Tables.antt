@@ -4,7 +4,7 @@ use Rattle.cg_purity.specs.declared.rule.RuleName as declared
 use Rattle.cg_purity.specs.declared.rule.Table.{Table}
 use Rattle.cg_model.specs.declared.machine.Machine.{Machine}
 use Rattle.cg_model.specs.Placed.{RuleName, needed}
-use Rattle.cg_model.specs.faults.E314.{one_leads, leads_in}
+use Rattle.cg_model_faults.specs.E314.{one_leads, leads_in}
 
 abbrev pub seen_rule : declared.RuleName → RuleName
 seen_rule r = record { hardware = r.hardware; sets = r.sets }

@@ -1,12 +1,13 @@
 ghost use Rattle.std.specs.Prelude.{◌≡◌, ◌∷◌};
 ghost use Rattle.cg_base.specs.Refusing.{first};
 ghost use Rattle.cg_model.specs.declared.rtl.Rtl.{out-Rtl};
-ghost use Rattle.cg_model.specs.faults.E304 as spec;
-ghost use Rattle.cg_model.specs.faults.Finding.{at_place};
-ghost use Rattle.cg_model.specs.declared.fault.Said.TheVariants.{Nothing};
+ghost use Rattle.cg_model_faults.specs.E304 as spec;
+ghost use Rattle.cg_model_faults.specs.Finding.{at_place};
+ghost use Rattle.cg_model_faults.specs.declared.fault.Said.TheVariants.{Nothing};
 
 use crate::walk::{NodeRule, first_in};
-use cg_model::{Hardware, HwKind, Machine, MachineFault, Op, Rtl, Said};
+use cg_model::{Hardware, HwKind, Machine, Op, Rtl};
+use cg_model_faults::{MachineFault, Said};
 
 /// A fault of hardware that is no register.
 fn fault(text: Said) -> MachineFault
@@ -55,7 +56,7 @@ pub struct Cells<'a> {
 impl NodeRule for Cells<'_> {
     ghost faults = { λ r. spec.no_cell_at r.machine.now };
 
-    #[tactic(auto, unfolding(cg_model::specs::faults::E304::no_cell_at))]
+    #[tactic(auto, unfolding(cg_model_faults::specs::E304::no_cell_at))]
     fn first_at(&self, rtl: &Rtl) -> Option<MachineFault> {
         match rtl.op {
             Op::Reg => no_cell(self.machine, rtl),

@@ -1,11 +1,12 @@
 ghost use Rattle.std.specs.Prelude.{◌≡◌, ◌*◌, ◌+◌, true, length, IfOk};
 ghost use Rattle.cg_base.specs.Refusing.{first};
-ghost use Rattle.cg_model.specs.faults.E314 as spec;
+ghost use Rattle.cg_model_faults.specs.E314 as spec;
 ghost use Rattle.cg_purity.specs.Tables.{seen_rule, IsRow, IsNext, IsAlike, AreAlike};
 
 use crate::rule::{RuleName, Table, in_table, is_ruled, rule_leads};
 use cg_base::NoMemory;
-use cg_model::{Machine, MachineFault, Said};
+use cg_model::Machine;
+use cg_model_faults::{MachineFault, Said};
 use std::alloc::Global;
 
 /// The row of the get rules, or of the set rules, that lead to a rule by a table.

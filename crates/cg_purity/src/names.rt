@@ -3,15 +3,16 @@ ghost use Rattle.cg_base.specs.Refusing.{first};
 ghost use Rattle.cg_model.specs.Matching.{fields_of_parts};
 ghost use Rattle.cg_model.specs.Operators.{at_number};
 ghost use Rattle.cg_model.specs.declared.rtl.Rtl.{out-Rtl};
-ghost use Rattle.cg_model.specs.declared.fault.Said.TheVariants as said;
-ghost use Rattle.cg_model.specs.declared.fault.Said.TheVariants.{Nothing};
-ghost use Rattle.cg_model.specs.faults.E306 as spec;
-ghost use Rattle.cg_model.specs.faults.E313.{part_operands, slot_operands};
-ghost use Rattle.cg_model.specs.faults.Finding.{at_place, where_so, stands_in};
+ghost use Rattle.cg_model_faults.specs.declared.fault.Said.TheVariants as said;
+ghost use Rattle.cg_model_faults.specs.declared.fault.Said.TheVariants.{Nothing};
+ghost use Rattle.cg_model_faults.specs.E306 as spec;
+ghost use Rattle.cg_model_faults.specs.E313.{part_operands, slot_operands};
+ghost use Rattle.cg_model_faults.specs.Finding.{at_place, where_so, stands_in};
 ghost use Rattle.cg_purity.specs.Named.{nameable};
 
 use crate::walk::{NodeRule, first_in};
-use cg_model::{Machine, MachineFault, Op, Part, Rtl, Said, Source};
+use cg_model::{Machine, Op, Part, Rtl, Source};
+use cg_model_faults::{MachineFault, Said};
 use cg_rules::fields_of_part;
 
 /// Where an expression stands that names fields and operands.
@@ -239,7 +240,7 @@ pub struct Names<'a> {
 impl NodeRule for Names<'_> {
     ghost faults = { λ r. spec.stray_at r.machine.now (nameable r.machine.now r.standing) };
 
-    #[tactic(auto, unfolding(cg_model::specs::faults::E306::stray_at))]
+    #[tactic(auto, unfolding(cg_model_faults::specs::E306::stray_at))]
     fn first_at(&self, rtl: &Rtl) -> Option<MachineFault> {
         match rtl.op {
             Op::FieldRef => stray_field(self.machine, self.standing, rtl),

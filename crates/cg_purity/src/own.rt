@@ -1,14 +1,15 @@
 ghost use Rattle.std.specs.Prelude.{◌≡◌};
 ghost use Rattle.cg_base.specs.Refusing.{first};
 ghost use Rattle.cg_base.specs.Modes.{mode_place};
-ghost use Rattle.cg_model.specs.faults.Judging as spec;
+ghost use Rattle.cg_model_faults.specs.Judging as spec;
 
 use crate::walk::{NodeRule, first_in};
 use cg_base::{Mode, mode_place};
-use cg_model::{MachineFault, Op, Purpose, Rtl, Said};
+use cg_model::{Op, Rtl};
+use cg_model_faults::{MachineFault, Purpose, Said};
 
 /// Whether an expression has a value of its own.
-#[tactic(auto, unfolding(cg_model::specs::faults::Judging::has_value))]
+#[tactic(auto, unfolding(cg_model_faults::specs::Judging::has_value))]
 fn has_value(purpose: Purpose) -> bool
     ensures { result ≡ spec.has_value purpose }
 {
@@ -21,7 +22,7 @@ fn has_value(purpose: Purpose) -> bool
 }
 
 /// Whether it has an index.
-#[tactic(auto, unfolding(cg_model::specs::faults::Judging::has_index))]
+#[tactic(auto, unfolding(cg_model_faults::specs::Judging::has_index))]
 fn has_index(purpose: Purpose) -> bool
     ensures { result ≡ spec.has_index purpose }
 {
@@ -33,7 +34,7 @@ fn has_index(purpose: Purpose) -> bool
 }
 
 /// Whether it has a new value.
-#[tactic(auto, unfolding(cg_model::specs::faults::Judging::has_new_value))]
+#[tactic(auto, unfolding(cg_model_faults::specs::Judging::has_new_value))]
 fn has_new_value(purpose: Purpose) -> bool
     ensures { result ≡ spec.has_new_value purpose }
 {
@@ -67,7 +68,7 @@ struct Belonging {
 impl NodeRule for Belonging {
     ghost faults = { λ r. spec.outside_at r.purpose };
 
-    #[tactic(auto, unfolding(cg_model::specs::faults::Judging::outside_at))]
+    #[tactic(auto, unfolding(cg_model_faults::specs::Judging::outside_at))]
     fn first_at(&self, rtl: &Rtl) -> Option<MachineFault> {
         match rtl.op {
             Op::Value => outside(has_value(self.purpose), Op::Value),
@@ -122,7 +123,7 @@ struct OwnMode {
 impl NodeRule for OwnMode {
     ghost faults = { λ r. spec.other_at r.own };
 
-    #[tactic(auto, unfolding(cg_model::specs::faults::Judging::other_at))]
+    #[tactic(auto, unfolding(cg_model_faults::specs::Judging::other_at))]
     fn first_at(&self, rtl: &Rtl) -> Option<MachineFault> {
         match rtl.op {
             Op::Value => other(self.own, rtl.mode),

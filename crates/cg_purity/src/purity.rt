@@ -3,15 +3,16 @@ ghost use Rattle.cg_base.specs.Refusing.{first};
 ghost use Rattle.cg_model.specs.Operators.{at_number, binary_ops};
 ghost use Rattle.cg_model.specs.Pure.{is_pure_binary};
 ghost use Rattle.cg_model.specs.Sound.{has_rules};
-ghost use Rattle.cg_model.specs.declared.fault.Said.TheVariants.{Own, Nothing};
-ghost use Rattle.cg_model.specs.faults.Finding.{at_place};
+ghost use Rattle.cg_model_faults.specs.declared.fault.Said.TheVariants.{Own, Nothing};
+ghost use Rattle.cg_model_faults.specs.Finding.{at_place};
 ghost use Rattle.cg_model.specs.declared.rtl.Rtl.{out-Rtl};
-ghost use Rattle.cg_model.specs.faults.E306 as e306;
-ghost use Rattle.cg_model.specs.faults.E315 as spec;
+ghost use Rattle.cg_model_faults.specs.E306 as e306;
+ghost use Rattle.cg_model_faults.specs.E315 as spec;
 
 use crate::names::is_among;
 use crate::walk::{NodeRule, first_in};
-use cg_model::{Field, Machine, MachineFault, Op, Purpose, Rtl, Said};
+use cg_model::{Field, Machine, Op, Rtl};
+use cg_model_faults::{MachineFault, Purpose, Said};
 use cg_rules::bits_covered;
 
 /// Whether the operation on two numbers of a place divides: the fourth to the seventh do.
@@ -33,7 +34,7 @@ fn is_dividing(rtl: &Rtl) -> bool
 }
 
 /// Whether an expression is impure by its outermost node.
-#[tactic(auto, unfolding(cg_model::specs::faults::E315::is_impure))]
+#[tactic(auto, unfolding(cg_model_faults::specs::E315::is_impure))]
 fn is_impure(rtl: &Rtl) -> bool
     ensures { result ≡ spec.is_impure (out-Rtl rtl.now).op (out-Rtl rtl.now).number }
 {
@@ -86,7 +87,7 @@ fn is_ruled(machine: &Machine, rtl: &Rtl) -> bool
 }
 
 /// Whether it names a field, in `encode`, `decode` or `insert`.
-#[tactic(auto, unfolding(cg_model::specs::faults::E315::names_field))]
+#[tactic(auto, unfolding(cg_model_faults::specs::E315::names_field))]
 fn names_field(rtl: &Rtl) -> bool
     ensures { result ≡ spec.names_field (out-Rtl rtl.now).op (out-Rtl rtl.now).number }
 {
@@ -98,7 +99,7 @@ fn names_field(rtl: &Rtl) -> bool
 }
 
 /// Whether it names what isn't a field of the multi field, in `extract`.
-#[tactic(auto, unfolding(cg_model::specs::faults::E315::names_other))]
+#[tactic(auto, unfolding(cg_model_faults::specs::E315::names_other))]
 fn names_other(subs: &[u16], rtl: &Rtl) -> bool
     ensures { result ≡ spec.names_other subs.now (out-Rtl rtl.now).op (out-Rtl rtl.now).number }
 {
@@ -110,7 +111,7 @@ fn names_other(subs: &[u16], rtl: &Rtl) -> bool
 }
 
 /// Whether it names the pc, a multi field or a field with a rule, in an assertion.
-#[tactic(auto, unfolding(cg_model::specs::faults::E315::names_ruled))]
+#[tactic(auto, unfolding(cg_model_faults::specs::E315::names_ruled))]
 fn names_ruled(machine: &Machine, rtl: &Rtl) -> bool
     ensures { result ≡ spec.names_ruled machine.now (out-Rtl rtl.now).op (out-Rtl rtl.now).number }
 {
@@ -134,7 +135,7 @@ pub struct Purity<'a> {
 }
 
 /// Whether the outermost node of an expression names what may not be named.
-#[tactic(auto, unfolding(cg_model::specs::faults::E315::may_not_name))]
+#[tactic(auto, unfolding(cg_model_faults::specs::E315::may_not_name))]
 fn may_not_name(machine: &Machine, purpose: Purpose, subs: &[u16], rtl: &Rtl) -> bool
     ensures { result ≡ spec.may_not_name machine.now purpose subs.now (out-Rtl rtl.now).op (out-Rtl rtl.now).number }
 {
@@ -163,7 +164,7 @@ fn fault() -> MachineFault
 impl NodeRule for Purity<'_> {
     ghost faults = { λ r. spec.impure_at r.machine.now r.purpose r.subs.now };
 
-    #[tactic(auto, unfolding(cg_model::specs::faults::E315::impure_at))]
+    #[tactic(auto, unfolding(cg_model_faults::specs::E315::impure_at))]
     fn first_at(&self, rtl: &Rtl) -> Option<MachineFault> {
         if is_impure(rtl) || may_not_name(self.machine, self.purpose, self.subs, rtl) {
             return Some(fault());
@@ -183,7 +184,7 @@ fn bits_at_number(machine: &Machine, rtl: &Rtl) -> u128
 }
 
 /// The bits of the field that an expression is, where it is one.
-#[tactic(auto, unfolding(cg_model::specs::faults::E315::bits_at_op))]
+#[tactic(auto, unfolding(cg_model_faults::specs::E315::bits_at_op))]
 fn own_bits(machine: &Machine, rtl: &Rtl) -> u128
     ensures { result ≡ spec.bits_at_op machine.now (out-Rtl rtl.now).op (out-Rtl rtl.now).number }
 {
@@ -206,7 +207,7 @@ fn bits_named(machine: &Machine, rtl: &Rtl) -> u128
 }
 
 /// Whether an assertion names over 8 bits.
-#[tactic(auto, unfolding(cg_model::specs::faults::E315::names_many))]
+#[tactic(auto, unfolding(cg_model_faults::specs::E315::names_many))]
 pub fn names_many(machine: &Machine, purpose: Purpose, rtl: &Rtl) -> bool
     ensures { result ≡ spec.names_many machine.now purpose rtl.now }
 {

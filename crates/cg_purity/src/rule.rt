@@ -3,7 +3,7 @@ ghost use Rattle.std.specs.Option.{option_copied};
 ghost use Rattle.cg_model.specs.Placed as placed;
 ghost use Rattle.cg_model.specs.Operators.{at_number};
 ghost use Rattle.cg_model.specs.declared.rtl.Rtl.{out-Rtl};
-ghost use Rattle.cg_model.specs.faults.E314 as spec;
+ghost use Rattle.cg_model_faults.specs.E314 as spec;
 ghost use Rattle.cg_purity.specs.Tables.{seen_rule, in_row, in_table, leads_by};
 
 use cg_model::{HwKind, Machine, Op, Rtl};

@@ -2,13 +2,14 @@ ghost use Rattle.std.specs.Prelude.{◌≡◌, IfOk};
 ghost use Rattle.std.specs.Option.{option_map};
 ghost use Rattle.cg_base.specs.Refusing.{first};
 ghost use Rattle.cg_model.specs.declared.rtl.Rtl.{out-Rtl};
-ghost use Rattle.cg_model.specs.faults.E306 as spec;
+ghost use Rattle.cg_model_faults.specs.E306 as spec;
 
 use cg_base::NoMemory;
-use cg_model::{Machine, MachineFault, Op, Rtl, Said};
+use cg_model::{Machine, Op, Rtl};
+use cg_model_faults::{MachineFault, Said};
 
 /// How many there are of what an operation names, inside of so many locals.
-#[tactic(auto, unfolding(cg_model::specs::faults::E306::count_of))]
+#[tactic(auto, unfolding(cg_model_faults::specs::E306::count_of))]
 fn count_of(machine: &Machine, locals: u64, op: Op) -> Option<u64>
     ensures { result ≡ spec.count_of machine.now locals op }
 {
@@ -45,7 +46,7 @@ fn unnamed_at(machine: &Machine, locals: u64, rtl: &Rtl) -> Option<MachineFault>
 }
 
 /// How many locals an expression declares for its items.
-#[tactic(auto, unfolding(cg_model::specs::faults::E306::declared_by))]
+#[tactic(auto, unfolding(cg_model_faults::specs::E306::declared_by))]
 fn declared_by(rtl: &Rtl) -> u64
     ensures { result ≡ spec.declared_by (out-Rtl rtl.now).op (out-Rtl rtl.now).number }
 {

@@ -1,9 +1,10 @@
 ghost use Rattle.std.specs.Prelude.{◌≡◌};
 ghost use Rattle.cg_base.specs.Refusing.{first};
-ghost use Rattle.cg_model.specs.faults.Finding.{AtNode, in_nodes};
+ghost use Rattle.cg_model_faults.specs.Finding.{AtNode, in_nodes};
 ghost use Rattle.cg_model.specs.declared.rtl.Rtl.{out-Rtl};
 
-use cg_model::{MachineFault, Rtl};
+use cg_model::Rtl;
+use cg_model_faults::MachineFault;
 
 /// A rule that judges each node of an expression by itself.
 pub trait NodeRule {

@@ -4,10 +4,10 @@ use Rattle.std.specs.Option.{option_or, option_map}
 use Rattle.std.proofs.lemmas.Grind.{common_steps}
 use Rattle.cg_base.specs.Refusing.{first}
 use Rattle.cg_model.specs.declared.machine.Machine.{Machine}
-use Rattle.cg_model.specs.faults.Finding.{Faults}
-use Rattle.cg_model.specs.faults.E308.{all_field_nodes}
-use Rattle.cg_model.specs.faults.Elements.{of_bundle, of_texts}
-use Rattle.cg_model.specs.faults.Refusing.{Found, first_found, refused_for, by_data, of_fields, of_multis, of_all_hardware, of_operands, of_insns, of_macros, spent_on_fields, spent_on_multis, spent_on_hardware}
+use Rattle.cg_model_faults.specs.Finding.{Faults}
+use Rattle.cg_model_faults.specs.E308.{all_field_nodes}
+use Rattle.cg_model_faults.specs.Elements.{of_bundle, of_texts}
+use Rattle.cg_model_faults.specs.Refusing.{Found, first_found, refused_for, by_data, of_fields, of_multis, of_all_hardware, of_operands, of_insns, of_macros, spent_on_fields, spent_on_multis, spent_on_hardware}
 use Rattle.cg_refuse.specs.Later.{from_multis}
 
 -- the refusal for the first of an element's faults, or for what comes behind

@@ -1,8 +1,8 @@
 -- The elements of a machine that are judged later, with so many nodes of expressions before them. Those behind hardware.
 use Rattle.std.specs.Prelude.{ℕ, ◌+◌, List, [], ◌∷◌, ◌++◌}
-use Rattle.cg_model.specs.faults.E308.{all_multi_nodes, all_hardware_nodes}
-use Rattle.cg_model.specs.faults.Elements.{of_texts}
-use Rattle.cg_model.specs.faults.Refusing.{Found, of_multis, of_all_hardware, of_operands, of_insns, of_macros}
+use Rattle.cg_model_faults.specs.E308.{all_multi_nodes, all_hardware_nodes}
+use Rattle.cg_model_faults.specs.Elements.{of_texts}
+use Rattle.cg_model_faults.specs.Refusing.{Found, of_multis, of_all_hardware, of_operands, of_insns, of_macros}
 use Rattle.cg_model.specs.declared.machine.Machine.{Machine}
 
 abbrev pub later_data : Machine → ℕ → List Found

@@ -1,6 +1,6 @@
 -- The names of elements by their numbers.
 use Rattle.std.specs.Prelude.{ℕ, List, slice_get}
-use Rattle.cg_model.specs.faults.Refusing.{name_where}
+use Rattle.cg_model_faults.specs.Refusing.{name_where}
 use Rattle.cg_model.specs.declared.machine.Machine.{Machine}
 
 abbrev pub multi_name : Machine → ℕ → List ℕ

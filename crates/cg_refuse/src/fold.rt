@@ -1,6 +1,6 @@
 ghost use Rattle.std.specs.Prelude.{◌≡◌, IfOk};
-ghost use Rattle.cg_model.specs.faults.E308 as e308;
-ghost use Rattle.cg_model.specs.faults.Refusing as spec;
+ghost use Rattle.cg_model_faults.specs.E308 as e308;
+ghost use Rattle.cg_model_faults.specs.Refusing as spec;
 
 use crate::said::refusal_for;
 use cg_base::{NoMemory, Refusal};

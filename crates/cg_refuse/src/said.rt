@@ -1,9 +1,10 @@
 ghost use Rattle.std.specs.Prelude.{◌≡◌, IfOk};
-ghost use Rattle.cg_model.specs.faults.Refusing as spec;
+ghost use Rattle.cg_model_faults.specs.Refusing as spec;
 ghost use Rattle.cg_refuse.specs.Naming.{multi_name, hardware_name, operand_name};
 
 use cg_base::{Mode, NoMemory, Refusal, Text, decimal, mode_word};
-use cg_model::{Machine, MachineFault, Op, Said};
+use cg_model::{Machine, Op};
+use cg_model_faults::{MachineFault, Said};
 use std::alloc::Global;
 
 /// By which name a rule names its value, its index and its new value.

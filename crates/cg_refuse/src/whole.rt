@@ -1,7 +1,7 @@
 ghost use Rattle.std.specs.Prelude.{◌≡◌, [], IfOk};
 ghost use Rattle.std.specs.Option.{option_map};
 ghost use Rattle.cg_refuse.specs.Later.{later_data, from_hardware, from_multis};
-ghost use Rattle.cg_model.specs.faults.Refusing as spec;
+ghost use Rattle.cg_model_faults.specs.Refusing as spec;
 
 use crate::fold::{
     Answer, all_field_nodes, all_hardware_nodes, all_multi_nodes, by_fields, by_hardware, by_insns,
@@ -10,7 +10,8 @@ use crate::fold::{
 use crate::modes::{by_field_modes, by_hardware_modes, by_insn_modes, by_multi_modes};
 use crate::said::refusal_for;
 use cg_check::{add, first_of_bundle, first_of_texts};
-use cg_model::{Machine, MachineFault};
+use cg_model::Machine;
+use cg_model_faults::MachineFault;
 use std::alloc::Global;
 
 /// The refusal for a fault that has no name of an element, where there is one.

@@ -2,7 +2,7 @@
 use Rattle.std.proofs.Common.{◌≡◌, true, arith}
 use Rattle.std.proofs.lemmas.Bool.Decides.{nat_tests}
 use Rattle.cg_model.specs.Covers.{IsPlaced}
-use Rattle.cg_model.specs.faults.E310.{is_placed}
+use Rattle.cg_model_faults.specs.E310.{is_placed}
 use Rattle.cg_model.specs.declared.field.Field.{Field}
 
 pub placed : (f : Field) → is_placed f ≡ true → IsPlaced f

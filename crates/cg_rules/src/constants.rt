@@ -1,8 +1,9 @@
 ghost use Rattle.std.specs.Prelude.{◌≡◌, ◌<◌, ◌^◌, nat_lt};
 ghost use Rattle.cg_base.specs.Refusing.{first};
-ghost use Rattle.cg_model.specs.faults.E311.{unfit_at, unfit_constants};
+ghost use Rattle.cg_model_faults.specs.E311.{unfit_at, unfit_constants};
 
-use cg_model::{Machine, MachineFault, Part, Said};
+use cg_model::{Machine, Part};
+use cg_model_faults::{MachineFault, Said};
 
 /// Whether a number has at most so many bits.
 #[tactic(auto, using(crate::proofs::Walks::fits_long))]

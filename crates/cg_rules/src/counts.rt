@@ -1,12 +1,13 @@
 ghost use Rattle.std.specs.Prelude.{◌≡◌, slice_get};
 ghost use Rattle.cg_base.specs.Refusing.{first};
 ghost use Rattle.cg_model.specs.Matching as matching;
-ghost use Rattle.cg_model.specs.faults.E308 as spec;
-ghost use Rattle.cg_model.specs.faults.E317.{too_many_insns};
+ghost use Rattle.cg_model_faults.specs.E308 as spec;
+ghost use Rattle.cg_model_faults.specs.E317.{too_many_insns};
 
 use crate::numbers::slot_count;
 use crate::overlap::fields_of_part;
-use cg_model::{Insn, Machine, MachineFault, Part, Said};
+use cg_model::{Insn, Machine, Part};
+use cg_model_faults::{MachineFault, Said};
 
 /// E308: a limit is passed by what makes so many before so many now.
 pub fn first_passing(limit: u64, before: u64, now: u64) -> Option<MachineFault>

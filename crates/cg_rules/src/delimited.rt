@@ -1,10 +1,11 @@
 ghost use Rattle.std.specs.Prelude.{◌≡◌};
 ghost use Rattle.cg_base.specs.Refusing.{first};
 ghost use Rattle.cg_base.specs.Characters.{is_in_word, is_in_sum};
-ghost use Rattle.cg_model.specs.faults.E312 as spec;
+ghost use Rattle.cg_model_faults.specs.E312 as spec;
 
 use cg_base::{is_in_word, is_in_sum};
-use cg_model::{Machine, MachineFault, Operand, Piece, Said};
+use cg_model::{Machine, Operand, Piece};
+use cg_model_faults::{MachineFault, Said};
 
 /// Whether the hardware of an operand has words.
 fn has_words(machine: &Machine, operand: &Operand) -> bool

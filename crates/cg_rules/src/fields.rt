@@ -1,10 +1,11 @@
 ghost use Rattle.std.specs.Prelude.{◌≡◌};
 ghost use Rattle.cg_base.specs.Refusing.{first};
-ghost use Rattle.cg_model.specs.faults.E309.{has_place, misplaced};
-ghost use Rattle.cg_model.specs.faults.E316.{is_bundle_bit, no_bundle_bit};
+ghost use Rattle.cg_model_faults.specs.E309.{has_place, misplaced};
+ghost use Rattle.cg_model_faults.specs.E316.{is_bundle_bit, no_bundle_bit};
 
 use cg_base::bits;
-use cg_model::{Field, Machine, MachineFault, Said};
+use cg_model::{Field, Machine};
+use cg_model_faults::{MachineFault, Said};
 
 /// Whether a field has a bit, lies in its word and is no longer than its mode.
 fn has_place(field: &Field) -> bool

@@ -1,9 +1,10 @@
 ghost use Rattle.std.specs.Prelude.{◌≡◌, length};
 ghost use Rattle.cg_base.specs.Refusing.{first};
-ghost use Rattle.cg_model.specs.faults.E306 as spec;
-ghost use Rattle.cg_model.specs.faults.E313.{slot_operands};
+ghost use Rattle.cg_model_faults.specs.E306 as spec;
+ghost use Rattle.cg_model_faults.specs.E313.{slot_operands};
 
-use cg_model::{Given, Machine, MachineFault, MacroInsn, Operand, Part, Piece, Said, Source};
+use cg_model::{Given, Machine, MacroInsn, Operand, Part, Piece, Source};
+use cg_model_faults::{MachineFault, Said};
 
 /// The fault of a number of something of which there are so many, at a place.
 fn beyond(count: usize, place: usize, number: usize) -> Option<MachineFault>

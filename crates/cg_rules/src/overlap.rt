@@ -2,11 +2,12 @@ ghost use Rattle.std.specs.Prelude.{◌≡◌, ◌≤◌, length, true, nat_eq};
 ghost use Rattle.cg_base.specs.Refusing.{first};
 ghost use Rattle.cg_model.specs.Covers.{IsPlaced};
 ghost use Rattle.cg_model.specs.Matching as matching;
-ghost use Rattle.cg_model.specs.faults.E310 as spec;
-ghost use Rattle.cg_model.specs.faults.E316.{bundled_from, bundled};
+ghost use Rattle.cg_model_faults.specs.E310 as spec;
+ghost use Rattle.cg_model_faults.specs.E316.{bundled_from, bundled};
 ghost use Rattle.cg_rules.specs.Two.{seen_two};
 
-use cg_model::{Field, Machine, MachineFault, Part, Said, Source};
+use cg_model::{Field, Machine, Part, Source};
+use cg_model_faults::{MachineFault, Said};
 use cg_view::cover;
 use std::slice::from_ref;
 

@@ -1,10 +1,11 @@
 ghost use Rattle.std.specs.Prelude.{◌≡◌, slice_get};
 ghost use Rattle.cg_base.specs.Refusing.{first};
-ghost use Rattle.cg_model.specs.faults.E313 as spec;
-ghost use Rattle.cg_model.specs.faults.Finding.{at_place, stands_in};
-ghost use Rattle.cg_model.specs.declared.fault.Said.TheVariants.{Own};
+ghost use Rattle.cg_model_faults.specs.E313 as spec;
+ghost use Rattle.cg_model_faults.specs.Finding.{at_place, stands_in};
+ghost use Rattle.cg_model_faults.specs.declared.fault.Said.TheVariants.{Own};
 
-use cg_model::{Given, MachineFault, Piece, Said};
+use cg_model::{Given, Piece};
+use cg_model_faults::{MachineFault, Said};
 
 /// The fault of what stands at a place.
 fn fault(place: usize, other: Said) -> MachineFault

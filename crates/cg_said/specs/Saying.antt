@@ -3,10 +3,10 @@ use Rattle.std.specs.Prelude.{ℕ, Bool, true, false, ◌==◌, nat_lt, if◌the
 use Rattle.std.specs.Option.{option_or, option_map}
 use Rattle.cg_base.specs.Refusing.{first}
 use Rattle.cg_base.specs.declared.refusal.Refusal.{Refusal}
-use Rattle.cg_model.specs.declared.fault.MachineFault.{MachineFault}
+use Rattle.cg_model_faults.specs.declared.fault.MachineFault.{MachineFault}
 use Rattle.cg_model.specs.declared.machine.Machine.{Machine}
-use Rattle.cg_model.specs.faults.Finding.{Faults}
-use Rattle.cg_model.specs.faults.Refusing.{said_text}
+use Rattle.cg_model_faults.specs.Finding.{Faults}
+use Rattle.cg_model_faults.specs.Refusing.{said_text}
 use Rattle.cg_said.specs.declared.saying.Saying.{Saying}
 use Rattle.cg_said.specs.declared.saying.Placed.{Placed}
 

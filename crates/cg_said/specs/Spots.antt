@@ -1,7 +1,7 @@
 -- Places in a syntax and in a format, and faults of data at them.
 use Rattle.std.specs.Prelude.{ℕ, ◌+◌, Bool, List, [], ◌∷◌, map, filter, slice_get, Option, Some, None, is_some}
 use Rattle.std.specs.Option.{option_map, unwrap_or}
-use Rattle.cg_model.specs.declared.fault.MachineFault.{MachineFault}
+use Rattle.cg_model_faults.specs.declared.fault.MachineFault.{MachineFault}
 use Rattle.cg_model.specs.declared.machine.Machine.{Machine}
 use Rattle.cg_choices.specs.declared.written.Spot.{Spot}
 use Rattle.cg_choices.specs.declared.written.Written.{Written}

@@ -6,7 +6,8 @@ ghost use Rattle.cg_base.specs.Refusing.{first};
 ghost use Rattle.cg_said.specs.Saying as spec;
 
 use cg_base::{List, NoMemory, Refusal, Text, Top};
-use cg_model::{Machine, MachineFault};
+use cg_model::Machine;
+use cg_model_faults::MachineFault;
 use cg_refuse::said_text;
 use std::alloc::Global;
 

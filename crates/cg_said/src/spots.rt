@@ -7,7 +7,8 @@ use crate::saying::{Placed, Saying, fault_said, put_at};
 use cg_base::{List, NoMemory};
 use cg_choices::{Spot, Written, WrittenPart};
 use cg_expanded::own_spot;
-use cg_model::{Machine, MachineFault};
+use cg_model::Machine;
+use cg_model_faults::MachineFault;
 use std::alloc::Global;
 
 /// The place of what stands at a spot: parts and pieces are counted from 1.

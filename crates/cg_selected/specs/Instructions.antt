@@ -24,7 +24,7 @@ use Rattle.cg_model.specs.declared.insn.Piece.TheVariants as piece
 use Rattle.cg_model.specs.declared.operand.Operand.{Operand}
 use Rattle.cg_model.specs.declared.rtl.Op.TheVariants as op
 use Rattle.cg_model.specs.declared.rtl.Rtl.{Rtl}
-use Rattle.cg_model.specs.faults.E306.{lies_in_fields}
+use Rattle.cg_model_faults.specs.E306.{lies_in_fields}
 use Rattle.cg_names.specs.declared.scope.Rule.TheVariants as rule
 use Rattle.cg_names.specs.declared.scope.Scope.{Scope}
 use Rattle.cg_names.specs.Names.{place_of, node, rtl_of}

@@ -16,7 +16,7 @@ use Rattle.cg_insn.specs.declared.form.InsnForm.TheVariants as insn
 use Rattle.cg_element.specs.declared.element.Element.{Element}
 use Rattle.cg_element.specs.declared.element.Element.TheVariants as element
 use Rattle.cg_model.specs.Placed.{is_register}
-use Rattle.cg_model.specs.Spelling.{word_value, named_values}
+use Rattle.cg_model.specs.Words.{word_value, named_values}
 use Rattle.cg_model.specs.declared.hardware.Hardware.{Hardware}
 use Rattle.cg_model.specs.declared.insn.Given.{Given}
 use Rattle.cg_model.specs.declared.insn.Given.TheVariants as given

@@ -4,7 +4,7 @@ ghost use Rattle.std.specs.Prelude.{◌≡◌, ◌++◌, filter, slice_get, IfOk
 ghost use Rattle.std.specs.Option.{option_copied};
 ghost use Rattle.std.specs.List.{filter_map};
 ghost use Rattle.cg_base.specs.Texts.{is_among};
-ghost use Rattle.cg_model.specs.faults.E306.{lies_in_fields};
+ghost use Rattle.cg_model_faults.specs.E306.{lies_in_fields};
 ghost use Rattle.cg_expanded.specs.Choices.{slot_name};
 ghost use Rattle.cg_names.specs.Names.{place_of};
 ghost use Rattle.cg_data.specs.Seen.{seen_numbering};

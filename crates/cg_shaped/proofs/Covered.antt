@@ -10,7 +10,7 @@ use Rattle.std.specs.Prelude.{codes}
 use Rattle.cg_model.specs.declared.rtl.Op.{Op}
 use Rattle.cg_model.specs.declared.rtl.Op.TheVariants as op
 use Rattle.cg_model.specs.declared.rtl.Rtl.{Rtl, out-Rtl, Rtl-F, roll-Rtl, fold-roll-Rtl, out-roll-Rtl}
-use Rattle.cg_model.specs.faults.Finding.{Faults, AtNode, of_each, node_step, in_nodes}
+use Rattle.cg_model_faults.specs.Finding.{Faults, AtNode, of_each, node_step, in_nodes}
 use Rattle.cg_names.specs.Names.{node, leaf, nothing, numbered, given_where, rule_name, named_by_rule, is_own, is_pure, field_named, bare_field, enum_value, constant_named, operand_or_constant, named_beyond, number_named, last_place, symbol_named, symbol_rtl, number_first, name_first, text_first, elements_first, elements_or_none, arm, arm_of, arm_at, value_in, value_named, value_of, choice_of, choice_at, declare_of, local_name, register_named, operand_index, sequence_of, function_rtl, known_rtl, call_rtl, layer_rtl, rtl_to, rtl_of, mode_first, function_of}
 use Rattle.cg_names.specs.declared.function.Function.{Function}
 use Rattle.cg_names.specs.declared.function.Function.TheVariants as function

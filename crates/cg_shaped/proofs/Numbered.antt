@@ -11,13 +11,13 @@ use Rattle.cg_base.specs.declared.mode.Mode.{Mode}
 use Rattle.cg_base.specs.Parts.{Layer, Headed, headed}
 use Rattle.cg_base.specs.Texts.{same_text}
 use Rattle.cg_model.specs.Operators.{unary_ops, binary_ops, ternary_ops}
-use Rattle.cg_model.specs.declared.fault.Said.TheVariants as said
+use Rattle.cg_model_faults.specs.declared.fault.Said.TheVariants as said
 use Rattle.cg_model.specs.declared.machine.Machine.{Machine}
 use Rattle.cg_model.specs.declared.rtl.Op.{Op}
 use Rattle.cg_model.specs.declared.rtl.Op.TheVariants as op
 use Rattle.cg_model.specs.declared.rtl.Rtl.{Rtl, fold-roll-Rtl}
-use Rattle.cg_model.specs.faults.E306.{Within, count_of, is_below, unnamed_at, declared_by, each_within, unnamed_step, unnamed_in, unnamed}
-use Rattle.cg_model.specs.faults.Finding.{AtNode, at_place, where_so}
+use Rattle.cg_model_faults.specs.E306.{Within, count_of, is_below, unnamed_at, declared_by, each_within, unnamed_step, unnamed_in, unnamed}
+use Rattle.cg_model_faults.specs.Finding.{AtNode, at_place, where_so}
 use Rattle.cg_names.specs.Names.{found_under, place_of, number_named, last_place, node, leaf, nothing, numbered, given_where, rule_name, named_by_rule, is_own, is_pure, field_named, bare_field, enum_value, constant_named, operand_or_constant, named_beyond, symbol_named, symbol_rtl, number_first, name_first, text_first, elements_first, elements_or_none, arm, arm_at, value_in, value_of, choice_at, declare_of, local_name, operand_index, readings, function_rtl, known_rtl, call_rtl, layer_rtl, rtl_to, rtl_of, mode_first, function_of}
 use Rattle.cg_names.specs.declared.function.Function.{Function}
 use Rattle.cg_names.specs.declared.function.Function.TheVariants as function

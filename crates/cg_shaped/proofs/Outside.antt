@@ -9,12 +9,12 @@ use Rattle.cg_base.specs.declared.form.Form.TheOpen.{Number, Symbol, Str, Flag, 
 use Rattle.cg_base.specs.declared.mode.Mode.{Mode}
 use Rattle.cg_base.specs.Parts.{Layer, Headed, headed}
 use Rattle.cg_base.specs.Texts.{same_text}
-use Rattle.cg_model.specs.declared.fault.Purpose.{Purpose}
+use Rattle.cg_model_faults.specs.declared.fault.Purpose.{Purpose}
 use Rattle.cg_model.specs.declared.rtl.Op.{Op}
 use Rattle.cg_model.specs.declared.rtl.Op.TheVariants as op
 use Rattle.cg_model.specs.declared.rtl.Rtl.{Rtl}
-use Rattle.cg_model.specs.faults.Finding.{AtNode, in_nodes}
-use Rattle.cg_model.specs.faults.Judging.{outside, has_value, has_index, has_new_value, outside_at, outside_rules}
+use Rattle.cg_model_faults.specs.Finding.{AtNode, in_nodes}
+use Rattle.cg_model_faults.specs.Judging.{outside, has_value, has_index, has_new_value, outside_at, outside_rules}
 use Rattle.cg_names.specs.Names.{found_under, node, leaf, nothing, numbered, given_where, rule_name, named_by_rule, is_own, is_pure, field_named, bare_field, enum_value, constant_named, operand_or_constant, named_beyond, number_named, last_place, symbol_named, symbol_rtl, number_first, name_first, text_first, elements_first, elements_or_none, arm, arm_at, value_of, choice_at, declare_of, local_name, operand_index, readings, function_rtl, known_rtl, call_rtl, layer_rtl, rtl_to, rtl_of, mode_first, function_of}
 use Rattle.cg_names.specs.declared.function.Function.{Function}
 use Rattle.cg_names.specs.declared.function.Function.TheVariants as function

@@ -3,7 +3,7 @@ use Rattle.std.specs.Prelude.{◌≡◌, List, [], ◌∷◌, ℤ, pos, Option, 
 use Rattle.cg_base.specs.declared.form.Form.{Form}
 use Rattle.cg_base.specs.declared.mode.Mode.{Mode}
 use Rattle.cg_model.specs.declared.rtl.Op.TheVariants as op
-use Rattle.cg_model.specs.faults.Finding.{AtNode, in_nodes}
+use Rattle.cg_model_faults.specs.Finding.{AtNode, in_nodes}
 use Rattle.cg_names.specs.Names.{rtl_of}
 use Rattle.cg_names.specs.declared.scope.Scope.{Scope}
 use Rattle.cg_uses.specs.Uses.{uses_of}

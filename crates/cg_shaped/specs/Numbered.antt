@@ -1,11 +1,11 @@
 -- All numbers in what an expression stands for name something, where the machine has as many elements of each kind as there are names.
 use Rattle.std.specs.Prelude.{◌≡◌, ◌==◌, List, [], length}
 use Rattle.cg_base.specs.declared.form.Form.{Form}
-use Rattle.cg_model.specs.declared.fault.Said.TheVariants as said
+use Rattle.cg_model_faults.specs.declared.fault.Said.TheVariants as said
 use Rattle.cg_model.specs.declared.machine.Machine.{Machine}
 use Rattle.cg_model.specs.declared.rtl.Op.TheVariants as op
-use Rattle.cg_model.specs.faults.E306.{unnamed}
-use Rattle.cg_model.specs.faults.Finding.{AtNode, at_place, where_so}
+use Rattle.cg_model_faults.specs.E306.{unnamed}
+use Rattle.cg_model_faults.specs.Finding.{AtNode, at_place, where_so}
 use Rattle.cg_names.specs.Names.{rtl_of}
 use Rattle.cg_names.specs.declared.scope.Scope.{Scope}
 use Rattle.cg_uses.specs.Uses.{uses_of}

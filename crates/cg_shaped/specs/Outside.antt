@@ -1,8 +1,8 @@
 -- A value, an index or a new value is named by no expression whose rule has none.
 use Rattle.std.specs.Prelude.{◌≡◌, true, []}
 use Rattle.cg_base.specs.declared.form.Form.{Form}
-use Rattle.cg_model.specs.declared.fault.Purpose.{Purpose}
-use Rattle.cg_model.specs.faults.Judging.{has_value, has_index, has_new_value, outside_rules}
+use Rattle.cg_model_faults.specs.declared.fault.Purpose.{Purpose}
+use Rattle.cg_model_faults.specs.Judging.{has_value, has_index, has_new_value, outside_rules}
 use Rattle.cg_names.specs.Names.{rtl_of}
 use Rattle.cg_names.specs.declared.scope.Rule.{Rule}
 use Rattle.cg_names.specs.declared.scope.Rule.TheVariants as rule

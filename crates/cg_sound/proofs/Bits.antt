@@ -11,8 +11,8 @@ use Rattle.cg_model.specs.declared.machine.Machine.{Machine}
 use Rattle.cg_model.specs.declared.rtl.Op.{Op}
 use Rattle.cg_model.specs.declared.rtl.Op.TheVariants as op
 use Rattle.cg_model.specs.declared.rtl.Rtl.{Rtl, roll-Rtl, Rtl-F, map-Rtl, fold-roll-Rtl, ind-Rtl}
-use Rattle.cg_model.specs.faults.E310.{meets, is_placed, bits_covered, first_meeting, first_two}
-use Rattle.cg_model.specs.faults.E315.{bits_at_number, bits_at_op, bits_step, bits_named}
+use Rattle.cg_model_faults.specs.E310.{meets, is_placed, bits_covered, first_meeting, first_two}
+use Rattle.cg_model_faults.specs.E315.{bits_at_number, bits_at_op, bits_step, bits_named}
 use Rattle.cg_sound.proofs.Clear.{Each}
 
 no_bit : (a : ℕ) → bit_and a 0 ≡ 0

@@ -3,17 +3,17 @@ use Rattle.std.proofs.Common.{◌≡◌, ℕ, zero, suc, ◌+◌, ◌≤◌, Boo
 use Rattle.std.specs.List.{list_all}
 use Rattle.std.proofs.lemmas.Bool.{false≢true}
 use Rattle.std.proofs.lemmas.Bool.Decides.{nat_tests}
-use Rattle.cg_model.specs.declared.fault.MachineFault.{MachineFault}
+use Rattle.cg_model_faults.specs.declared.fault.MachineFault.{MachineFault}
 use Rattle.cg_model.specs.declared.field.Field.{Field}
 use Rattle.cg_model.specs.declared.field.Multi.{Multi}
 use Rattle.cg_model.specs.declared.insn.Insn.{Insn}
 use Rattle.cg_model.specs.declared.machine.Machine.{Machine}
 use Rattle.cg_model.specs.declared.operand.Operand.{Operand}
-use Rattle.cg_model.specs.faults.E308.{field_nodes, multi_nodes, insn_nodes}
-use Rattle.cg_model.specs.faults.E317.{too_many_insns}
-use Rattle.cg_model.specs.faults.Elements.{of_field, of_multi, of_operand, of_insn, field_modes, multi_modes, insn_modes}
-use Rattle.cg_model.specs.faults.Finding.{Faults, where_so, where_none}
-use Rattle.cg_model.specs.faults.Refusing.{Found, first_found, of_fields, of_multis, of_operands, of_insns, of_field_modes, of_multi_modes, of_insn_modes}
+use Rattle.cg_model_faults.specs.E308.{field_nodes, multi_nodes, insn_nodes}
+use Rattle.cg_model_faults.specs.E317.{too_many_insns}
+use Rattle.cg_model_faults.specs.Elements.{of_field, of_multi, of_operand, of_insn, field_modes, multi_modes, insn_modes}
+use Rattle.cg_model_faults.specs.Finding.{Faults, where_so, where_none}
+use Rattle.cg_model_faults.specs.Refusing.{Found, first_found, of_fields, of_multis, of_operands, of_insns, of_field_modes, of_multi_modes, of_insn_modes}
 
 -- what holds of each of some things
 abbrev pub Each : {A : Type 0} → (A → Type 0) → List A → Type 0

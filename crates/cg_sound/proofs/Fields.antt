@@ -8,7 +8,7 @@ use Rattle.cg_base.specs.declared.mode.Mode.{Mode}
 use Rattle.cg_model.specs.Covers.{IsInWord}
 use Rattle.cg_model.specs.Formed.{is_size, has_bits, is_formed, is_formed_where, is_field, is_multi}
 use Rattle.cg_model.specs.Sound.{SoundField, AreInserts, are_fields, SoundMulti, has_source, SoundOperand, SoundBase}
-use Rattle.cg_model.specs.declared.fault.Purpose.TheVariants as purpose
+use Rattle.cg_model_faults.specs.declared.fault.Purpose.TheVariants as purpose
 use Rattle.cg_model.specs.declared.field.Field.{Field}
 use Rattle.cg_model.specs.declared.field.Multi.{Multi}
 use Rattle.cg_model.specs.declared.machine.Machine.{Machine}
@@ -16,10 +16,10 @@ use Rattle.cg_model.specs.declared.operand.Operand.{Operand}
 use Rattle.cg_model.specs.declared.operand.Source.{Source}
 use Rattle.cg_model.specs.declared.operand.Source.TheVariants as source
 use Rattle.cg_model.specs.declared.rtl.Rtl.{Rtl}
-use Rattle.cg_model.specs.faults.E306 as e306
-use Rattle.cg_model.specs.faults.E308 as e308
-use Rattle.cg_model.specs.faults.E309.{has_place, misplaced}
-use Rattle.cg_model.specs.faults.Elements.{cells_of, numbers_of, purity_of, where_there, of_all, judged_where, field_judged, inserts_judged, multi_judged, mode_of_field, field_modes, multi_modes}
+use Rattle.cg_model_faults.specs.E306 as e306
+use Rattle.cg_model_faults.specs.E308 as e308
+use Rattle.cg_model_faults.specs.E309.{has_place, misplaced}
+use Rattle.cg_model_faults.specs.Elements.{cells_of, numbers_of, purity_of, where_there, of_all, judged_where, field_judged, inserts_judged, multi_judged, mode_of_field, field_modes, multi_modes}
 use Rattle.cg_sound.proofs.Clear.{Each, AreNone, all_none, AreTrue, all_true, front_none, back_none, not_true, FieldClear, MultiClear, OperandClear}
 use Rattle.cg_sound.proofs.Nodes.{both_true, there}
 use Rattle.cg_sound.proofs.Rules.{JudgedClear, judged_clear, each_front, each_back, judged_one, there_none, encodes, decodes, inserts, value_rule, fields_rule}

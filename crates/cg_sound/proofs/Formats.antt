@@ -6,7 +6,7 @@ use Rattle.cg_model.specs.Covers.{AreInWords, fields_cover, covered_by, covered_
 use Rattle.cg_model.specs.Matching.{fields_of_part, fields_of_parts, last_end, length_of}
 use Rattle.cg_model.specs.Slots.{slots_of}
 use Rattle.cg_model.specs.Sound.{PartFits, AreApart, IsAssertion, SoundInsn}
-use Rattle.cg_model.specs.declared.fault.Purpose.TheVariants as purpose
+use Rattle.cg_model_faults.specs.declared.fault.Purpose.TheVariants as purpose
 use Rattle.cg_model.specs.declared.field.Field.{Field}
 use Rattle.cg_model.specs.declared.insn.Insn.{Insn}
 use Rattle.cg_model.specs.declared.insn.Part.{Part}
@@ -14,18 +14,18 @@ use Rattle.cg_model.specs.declared.insn.Part.TheVariants.{Constant, Slot}
 use Rattle.cg_model.specs.declared.machine.Machine.{Machine}
 use Rattle.cg_model.specs.declared.operand.Operand.{Operand}
 use Rattle.cg_model.specs.declared.rtl.Rtl.{Rtl}
-use Rattle.cg_model.specs.faults.E306 as e306
-use Rattle.cg_model.specs.faults.E308 as e308
-use Rattle.cg_model.specs.faults.E310.{first_two, overlap_at, overlaps_with, overlaps_from, overlaps}
-use Rattle.cg_model.specs.faults.E311.{unfit_at, unfit_from, unfit_constants}
-use Rattle.cg_model.specs.faults.E312.{undelimited}
-use Rattle.cg_model.specs.faults.E313.{slot_operands, written_twice, unmatched}
-use Rattle.cg_model.specs.faults.E315.{bits_named, names_many}
-use Rattle.cg_model.specs.faults.E316.{bundled}
-use Rattle.cg_model.specs.faults.E317.{too_many_insns}
-use Rattle.cg_model.specs.faults.Elements.{names_of, purity_of, where_there, insn_cells, insn_shape, insn_names, insn_format, judged_where, insn_judged, insn_modes}
-use Rattle.cg_model.specs.faults.Finding.{Faults, where_so, where_none, at_place}
-use Rattle.cg_model.specs.declared.fault.Said.TheVariants as said
+use Rattle.cg_model_faults.specs.E306 as e306
+use Rattle.cg_model_faults.specs.E308 as e308
+use Rattle.cg_model_faults.specs.E310.{first_two, overlap_at, overlaps_with, overlaps_from, overlaps}
+use Rattle.cg_model_faults.specs.E311.{unfit_at, unfit_from, unfit_constants}
+use Rattle.cg_model_faults.specs.E312.{undelimited}
+use Rattle.cg_model_faults.specs.E313.{slot_operands, written_twice, unmatched}
+use Rattle.cg_model_faults.specs.E315.{bits_named, names_many}
+use Rattle.cg_model_faults.specs.E316.{bundled}
+use Rattle.cg_model_faults.specs.E317.{too_many_insns}
+use Rattle.cg_model_faults.specs.Elements.{names_of, purity_of, where_there, insn_cells, insn_shape, insn_names, insn_format, judged_where, insn_judged, insn_modes}
+use Rattle.cg_model_faults.specs.Finding.{Faults, where_so, where_none, at_place}
+use Rattle.cg_model_faults.specs.declared.fault.Said.TheVariants as said
 use Rattle.cg_view.proofs.Within.{last_within}
 use Rattle.cg_sound.proofs.Clear.{AreNone, all_none, front_none, back_none, test_false, not_true, later_none, InsnClear}
 use Rattle.cg_sound.proofs.Nodes.{there, of_not}

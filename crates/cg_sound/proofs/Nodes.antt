@@ -9,17 +9,17 @@ use Rattle.cg_base.specs.declared.mode.Mode.TheVariants as mode
 use Rattle.cg_model.specs.Operators.{at_number}
 use Rattle.cg_model.specs.Pure.{is_pure_op, is_pure}
 use Rattle.cg_model.specs.Sound.{Allowed, allowed_step, is_allowed, is_among, names_among, is_there, is_mode, of_value, of_fields, of_format, has_rules, is_plain}
-use Rattle.cg_model.specs.declared.fault.Purpose.{Purpose}
-use Rattle.cg_model.specs.declared.fault.Purpose.TheVariants as purpose
+use Rattle.cg_model_faults.specs.declared.fault.Purpose.{Purpose}
+use Rattle.cg_model_faults.specs.declared.fault.Purpose.TheVariants as purpose
 use Rattle.cg_model.specs.declared.field.Field.{Field}
 use Rattle.cg_model.specs.declared.machine.Machine.{Machine}
 use Rattle.cg_model.specs.declared.rtl.Op.{Op}
 use Rattle.cg_model.specs.declared.rtl.Op.TheVariants as op
 use Rattle.cg_model.specs.declared.rtl.Rtl.{Rtl, roll-Rtl, Rtl-F, map-Rtl, fold-roll-Rtl, ind-Rtl}
-use Rattle.cg_model.specs.faults.E306.{Nameable, Within, count_of, is_below, unnamed_at, declared_by, each_within, unnamed_step, unnamed_in, stray_at, names}
-use Rattle.cg_model.specs.faults.E315.{is_impure, is_ruled, names_field, names_other, names_ruled, may_not_name, impure_at}
-use Rattle.cg_model.specs.faults.Finding.{Faults, AtNode, of_each, node_step, in_nodes, stands_in}
-use Rattle.cg_model.specs.faults.Judging.{has_value, has_index, has_new_value, outside_at, has_other, other_at}
+use Rattle.cg_model_faults.specs.E306.{Nameable, Within, count_of, is_below, unnamed_at, declared_by, each_within, unnamed_step, unnamed_in, stray_at, names}
+use Rattle.cg_model_faults.specs.E315.{is_impure, is_ruled, names_field, names_other, names_ruled, may_not_name, impure_at}
+use Rattle.cg_model_faults.specs.Finding.{Faults, AtNode, of_each, node_step, in_nodes, stands_in}
+use Rattle.cg_model_faults.specs.Judging.{has_value, has_index, has_new_value, outside_at, has_other, other_at}
 use Rattle.cg_sound.proofs.Clear.{front_none, back_none, test_false, not_true}
 
 -- the faults of an expression that is written out

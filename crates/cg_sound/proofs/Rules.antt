@@ -7,18 +7,18 @@ use Rattle.cg_base.specs.declared.mode.Mode.{Mode}
 use Rattle.cg_model.specs.Checked.{Verdict, mode_of}
 use Rattle.cg_model.specs.Pure.{is_pure, is_pure_op}
 use Rattle.cg_model.specs.Sound.{Allowed, is_allowed, of_value, of_fields, of_format, Gives, IsRule}
-use Rattle.cg_model.specs.declared.fault.MachineFault.{MachineFault}
-use Rattle.cg_model.specs.declared.fault.Purpose.{Purpose}
-use Rattle.cg_model.specs.declared.fault.Purpose.TheVariants as purpose
-use Rattle.cg_model.specs.declared.fault.Said.TheVariants as said
+use Rattle.cg_model_faults.specs.declared.fault.MachineFault.{MachineFault}
+use Rattle.cg_model_faults.specs.declared.fault.Purpose.{Purpose}
+use Rattle.cg_model_faults.specs.declared.fault.Purpose.TheVariants as purpose
+use Rattle.cg_model_faults.specs.declared.fault.Said.TheVariants as said
 use Rattle.cg_model.specs.declared.machine.Machine.{Machine}
 use Rattle.cg_model.specs.declared.rtl.Op.{Op}
 use Rattle.cg_model.specs.declared.rtl.Rtl.{Rtl}
-use Rattle.cg_model.specs.faults.E306.{Nameable, unnamed, stray_at}
-use Rattle.cg_model.specs.faults.E315.{names_field, may_not_name, impure_at, names_many, impure}
-use Rattle.cg_model.specs.faults.Elements.{where_there, purity_of, judged_where}
-use Rattle.cg_model.specs.faults.Finding.{Faults, AtNode, in_nodes, at_place}
-use Rattle.cg_model.specs.faults.Judging.{Judged, has_index, has_new_value, outside_at, outside_rules, other_at, is_free, disagrees, result_faults, verdict_faults, mode_faults, all_outside, all_modes, judged_faults}
+use Rattle.cg_model_faults.specs.E306.{Nameable, unnamed, stray_at}
+use Rattle.cg_model_faults.specs.E315.{names_field, may_not_name, impure_at, names_many, impure}
+use Rattle.cg_model_faults.specs.Elements.{where_there, purity_of, judged_where}
+use Rattle.cg_model_faults.specs.Finding.{Faults, AtNode, in_nodes, at_place}
+use Rattle.cg_model_faults.specs.Judging.{Judged, has_index, has_new_value, outside_at, outside_rules, other_at, is_free, disagrees, result_faults, verdict_faults, mode_faults, all_outside, all_modes, judged_faults}
 use Rattle.cg_sound.proofs.Clear.{Each, front_none, back_none, test_false, not_true, later_none}
 use Rattle.cg_sound.proofs.Nodes.{Clear, all_right, pure_allowed, declares_none, pure_node, value_node, fields_node, format_node}
 

@@ -9,9 +9,9 @@ use Rattle.cg_model.specs.Sound.{IsSound, SoundField, SoundHardware}
 use Rattle.cg_model.specs.declared.field.Field.{Field}
 use Rattle.cg_model.specs.declared.hardware.Hardware.{Hardware}
 use Rattle.cg_model.specs.declared.machine.Machine.{Machine}
-use Rattle.cg_model.specs.faults.Accepted.{IsAccepted}
-use Rattle.cg_model.specs.faults.Elements.{of_bundle, of_texts, field_modes, multi_modes, insn_modes}
-use Rattle.cg_model.specs.faults.Refusing.{first_refusal, by_data, by_modes, of_fields, of_multis, of_all_hardware, of_operands, of_insns, of_macros, of_field_modes, of_multi_modes, of_hardware_modes, of_insn_modes, spent_on_fields, spent_on_multis, spent_on_hardware}
+use Rattle.cg_model_faults.specs.Accepted.{IsAccepted}
+use Rattle.cg_model_faults.specs.Elements.{of_bundle, of_texts, field_modes, multi_modes, insn_modes}
+use Rattle.cg_model_faults.specs.Refusing.{first_refusal, by_data, by_modes, of_fields, of_multis, of_all_hardware, of_operands, of_insns, of_macros, of_field_modes, of_multi_modes, of_hardware_modes, of_insn_modes, spent_on_fields, spent_on_multis, spent_on_hardware}
 use Rattle.cg_sound.proofs.Clear.{Each, AreTrue, all_true, every, all_clear, each, AllClear, clear, clear_front, clear_back, FieldClear, MultiClear, OperandClear, InsnClear, fields_clear, multis_clear, operands_clear, insns_clear, field_modes_clear, multi_modes_clear, insn_modes_clear, few_insns}
 use Rattle.cg_sound.proofs.Fields.{size_of, valued, sound_field, sound_multi, sound_operand}
 use Rattle.cg_sound.proofs.Formats.{sound_insn}

@@ -1,8 +1,8 @@
 ghost use Rattle.std.specs.Prelude.{◌≡◌, None};
 ghost use Rattle.cg_model.specs.Formed.{IsFormed};
 ghost use Rattle.cg_model.specs.Sound.{IsSound};
-ghost use Rattle.cg_model.specs.faults.Accepted.{IsAccepted};
-ghost use Rattle.cg_model.specs.faults.Refusing.{first_refusal};
+ghost use Rattle.cg_model_faults.specs.Accepted.{IsAccepted};
+ghost use Rattle.cg_model_faults.specs.Refusing.{first_refusal};
 
 use cg_model::Machine;
 

@@ -6,9 +6,9 @@ use Rattle.std.proofs.lemmas.Bool.{both_ways}
 use Rattle.std.proofs.lemmas.Int.{ints}
 use Rattle.std.proofs.lemmas.List.{append-nil}
 use Rattle.cg_base.specs.Numerals.{number_written}
-use Rattle.cg_model.specs.Spelling.{is_label, is_keyword, plus, plus_number, plus_label, summed, sum_of}
-use Rattle.cg_model.specs.declared.written.Sum.{Sum}
-use Rattle.cg_model.specs.declared.written.Term.{Term}
+use Rattle.cg_model_source.specs.Spelling.{is_label, is_keyword, plus, plus_number, plus_label, summed, sum_of}
+use Rattle.cg_model_source.specs.declared.written.Sum.{Sum}
+use Rattle.cg_model_source.specs.declared.written.Term.{Term}
 use Rattle.cg_spelling.specs.Adding.{Left, first_part, next_part, parts_from, left_parts, added, Adds}
 use Rattle.cg_spelling.proofs.Parting.{part_length, first_is, parts_are}
 

@@ -3,12 +3,12 @@ use Rattle.std.specs.Prelude.{ℕ, not, ◌&&◌, if◌then◌else◌, List, [],
 use Rattle.std.proofs.Common.{◌≡◌, refl, ap, ◌∙◌}
 use Rattle.cg_base.specs.Numerals.{number_written}
 use Rattle.cg_base.specs.Parts.{◌>>=◌}
-use Rattle.cg_model.specs.Spelling.{Signed, plus, plus_number, plus_label, summed, sum_parts, sum_of, spelled, spelled_by, is_label}
+use Rattle.cg_model_source.specs.Spelling.{Signed, plus, plus_number, plus_label, summed, sum_parts, sum_of, spelled, spelled_by, is_label}
 use Rattle.cg_model.specs.declared.hardware.Hardware.{Hardware}
 use Rattle.cg_model.specs.declared.hardware.Keyword.{Keyword}
 use Rattle.cg_model.specs.declared.machine.Machine.{Machine}
 use Rattle.cg_model.specs.declared.operand.Operand.{Operand}
-use Rattle.cg_model.specs.declared.written.Sum.{Sum}
+use Rattle.cg_model_source.specs.declared.written.Sum.{Sum}
 use Rattle.cg_spelling.specs.Laws.{SpellAlike}
 use Rattle.cg_spelling.specs.Lowered.{SameKeywords}
 

@@ -6,7 +6,8 @@ use Rattle.std.proofs.Math.Seq.{drop-cons}
 use Rattle.std.proofs.lemmas.Bool.Decides.{nat_tests}
 use Rattle.std.specs.Cmp.Lexicographic.{bytes_decides}
 use Rattle.cg_base.specs.Texts.{same_text}
-use Rattle.cg_model.specs.Spelling.{lower, same_word, is_keyword, words_of}
+use Rattle.cg_model_source.specs.Spelling.{is_keyword}
+use Rattle.cg_model.specs.Words.{lower, same_word, words_of}
 use Rattle.cg_model.specs.declared.hardware.Hardware.{Hardware}
 use Rattle.cg_model.specs.declared.hardware.NamedValue.{NamedValue}
 use Rattle.cg_spelling.specs.Lowered.{AreLowered, SameKeywords, put_word, put_words}

@@ -3,7 +3,7 @@ use Rattle.std.specs.Prelude.{ℕ, suc, ◌+◌, ◌≤◌, Bool, true, false, n
 use Rattle.std.specs.List.{prefix_len}
 use Rattle.std.proofs.Common.{◌≡◌, refl, ap, arith}
 use Rattle.std.proofs.lemmas.List.Sums.{prefix_len-le-length}
-use Rattle.cg_model.specs.Spelling.{Signed, is_sign, parted, sum_parts}
+use Rattle.cg_model_source.specs.Spelling.{Signed, is_sign, parted, sum_parts}
 use Rattle.cg_spelling.specs.Adding.{first_part, next_part, parts_from, left_parts}
 
 pub at_most : (test : ℕ → Bool) (text : List ℕ) → prefix_len test text ≤ length text

@@ -2,8 +2,8 @@
 use Rattle.std.specs.Prelude.{◌≡◌, ℕ, Bool, false, ◌==◌, if◌then◌else◌, List, [], ◌∷◌, ◌++◌, ◌+ℤ◌, Option, Some, None}
 use Rattle.std.specs.Option.{option_map}
 use Rattle.cg_base.specs.Parts.{◌>>=◌}
-use Rattle.cg_model.specs.Spelling.{Signed, is_sign, parted, plus}
-use Rattle.cg_model.specs.declared.written.Sum.{Sum}
+use Rattle.cg_model_source.specs.Spelling.{Signed, is_sign, parted, plus}
+use Rattle.cg_model_source.specs.declared.written.Sum.{Sum}
 
 -- What is left of a text from a part on, and whether that part is taken off.
 abbrev pub Left : Type 0

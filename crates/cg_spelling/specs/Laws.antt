@@ -1,6 +1,6 @@
 -- What a text stands for depends on which texts are keywords, and not on how they are listed.
 use Rattle.std.specs.Prelude.{◌≡◌, ℕ, List}
-use Rattle.cg_model.specs.Spelling.{sum_of, spelled}
+use Rattle.cg_model_source.specs.Spelling.{sum_of, spelled}
 use Rattle.cg_model.specs.declared.machine.Machine.{Machine}
 use Rattle.cg_model.specs.declared.operand.Operand.{Operand}
 

@@ -1,7 +1,8 @@
 -- Words in small letters.
 use Rattle.std.specs.Prelude.{◌≡◌, ℕ, List, [], ◌∷◌, map}
 use Rattle.cg_base.specs.Texts.{same_text}
-use Rattle.cg_model.specs.Spelling.{lower, is_keyword}
+use Rattle.cg_model_source.specs.Spelling.{is_keyword}
+use Rattle.cg_model.specs.Words.{lower}
 use Rattle.indexmap.specs.IndexSet.{insert_key}
 
 -- All letters are small ones.

@@ -2,16 +2,16 @@
 
 ghost use Rattle.std.specs.Prelude.{◌≡◌, ◌&&◌, not};
 ghost use Rattle.std.specs.List.{list_all};
-ghost use Rattle.cg_model.specs.Spelling as spec;
-ghost use Rattle.cg_base.specs.Characters.{is_in_word, is_in_sum};
-ghost use Rattle.cg_model.specs.faults.E312 as runs;
+ghost use Rattle.cg_model.specs.Words.{lower};
+ghost use Rattle.cg_model_source.specs.Spelling as spec;
+ghost use Rattle.cg_model_faults.specs.E312 as runs;
 
 use cg_base::{is_in_word, is_in_sum};
 use cg_model::{Machine, Operand};
 
 /// The small letter of a letter. All else stays.
 pub fn lower(byte: u8) -> u8
-    ensures { result ≡ spec.lower byte }
+    ensures { result ≡ lower byte }
 {
     match byte {
         b'A'..=b'Z' => byte + 32,

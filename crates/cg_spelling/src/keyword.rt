@@ -3,7 +3,8 @@
 ghost use Rattle.std.specs.Prelude.{◌≡◌, [], map, IfOk, OnOk};
 ghost use Rattle.cg_base.specs.Texts.{same_text};
 ghost use Rattle.indexmap.specs.IndexSet.{insert_key};
-ghost use Rattle.cg_model.specs.Spelling as spec;
+ghost use Rattle.cg_model.specs.Words.{lower, named_values};
+ghost use Rattle.cg_model_source.specs.Spelling as spec;
 ghost use Rattle.cg_spelling.specs.Lowered.{put_words, SameKeywords};
 
 use crate::character::lower;
@@ -33,7 +34,7 @@ impl Model for Keywords {
 
 /// A text in small letters.
 fn lowered(alloc: Global, text: &[u8]) -> Result<Text, NoMemory>
-    ensures { IfOk result (λ lowered. lowered ≡ map spec.lower text.now) }
+    ensures { IfOk result (λ lowered. lowered ≡ map lower text.now) }
 {
     let mut lowered = Text::new(alloc);
     for byte in text {
@@ -78,7 +79,7 @@ fn put_words(
 
 /// The words of hardware.
 fn words_of(hardware: &Hardware) -> &[NamedValue]
-    ensures { result.now ≡ spec.named_values hardware.now.keyword }
+    ensures { result.now ≡ named_values hardware.now.keyword }
 {
     match &hardware.keyword {
         Some(keyword) => keyword.words.as_slice(),

@@ -3,13 +3,13 @@
 ghost use Rattle.std.specs.Prelude.{◌≡◌, ◌-◌, ◌^◌, ◌≤◌, not, pos, neg_ℤ, ◌≤ℤ◌, ◌+ℤ◌, ◌-ℤ◌, if◌then◌else◌, length, IfOk};
 ghost use Rattle.std.specs.Option.{option_map};
 ghost use Rattle.std.specs.List.{prefix_len};
-ghost use Rattle.cg_model.specs.Spelling as spec;
+ghost use Rattle.cg_model_source.specs.Spelling as spec;
 ghost use Rattle.cg_spelling.specs.Adding.{first_part, next_part, Adds};
 
 use crate::character::is_label;
 use crate::keyword::Keywords;
 use cg_base::{List, NoMemory, Text, read_number};
-use cg_model::{Sum, Term};
+use cg_model_source::{Sum, Term};
 use std::alloc::Global;
 
 /// Whether a character is a sign.
@@ -90,7 +90,7 @@ fn add_part(
 
 /// The sum that a text writes (docs/ASSEMBLY.md, "Sums"): numbers and labels with signs between them, and
 /// a sign in front if need be. None exactly where the text is no sum: no label may be a keyword.
-#[tactic(auto, using(crate::proofs::Adding::adding), unfolding(cg_model::specs::Spelling::sum_of))]
+#[tactic(auto, using(crate::proofs::Adding::adding), unfolding(cg_model_source::specs::Spelling::sum_of))]
 pub fn sum_of(alloc: Global, keywords: &Keywords, text: &[u8]) -> Result<Option<Sum>, NoMemory>
     ensures { IfOk result (λ sum. sum ≡ spec.sum_of keywords.now text.now) }
 {

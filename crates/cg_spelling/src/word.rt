@@ -3,18 +3,20 @@
 ghost use Rattle.std.specs.Prelude.{◌≡◌, ◌%◌, ◌^◌, IfOk};
 ghost use Rattle.cg_base.specs.Modes.{bits_of};
 ghost use Rattle.cg_model.specs.Slots as slots;
-ghost use Rattle.cg_model.specs.Spelling as spec;
+ghost use Rattle.cg_model.specs.Words.{same_word, word_value};
+ghost use Rattle.cg_model_source.specs.Spelling as spec;
 
 use crate::character::lower;
 use crate::keyword::Keywords;
 use crate::sum::sum_of;
 use cg_base::{List, Mode, NoMemory, convert};
-use cg_model::{HwKind, Keyword, Machine, NamedValue, Operand, Sum};
+use cg_model::{HwKind, Keyword, Machine, NamedValue, Operand};
+use cg_model_source::Sum;
 use std::alloc::Global;
 
 /// Whether two texts are the same, letter case aside.
 fn same_word(one: &[u8], other: &[u8]) -> bool
-    ensures { result ≡ spec.same_word one.now other.now }
+    ensures { result ≡ same_word one.now other.now }
 {
     if one.len() != other.len() {
         return false;
@@ -30,7 +32,7 @@ fn same_word(one: &[u8], other: &[u8]) -> bool
 /// The value of the first word that a text is, letter case aside. None exactly where it is none of them
 /// (docs/ASSEMBLY.md, "Statements").
 pub fn word_value(words: &[NamedValue], text: &[u8]) -> Option<u64>
-    ensures { result ≡ spec.word_value words.now text.now }
+    ensures { result ≡ word_value words.now text.now }
 {
     for each in words {
         if same_word(each.word.as_slice(), text) {
@@ -93,7 +95,7 @@ fn spelled_by(
 /// What a text that is written for an operand stands for (docs/ASSEMBLY.md, "Statements"): the value of a
 /// word modulo 2^bits of its mode where the hardware has words, and else what the sum gives. None exactly
 /// where it is neither.
-#[tactic(auto, unfolding(cg_model::specs::Spelling::spelled))]
+#[tactic(auto, unfolding(cg_model_source::specs::Spelling::spelled))]
 pub fn spelled(
     alloc: Global,
     machine: &Machine,

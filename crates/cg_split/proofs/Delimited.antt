@@ -3,21 +3,21 @@ use Rattle.std.specs.Prelude.{ℕ, suc, Bool, true, false, not, ◌&&◌, ◌||�
 use Rattle.std.proofs.Common.{◌≡◌, refl, sym, ap, ◌∙◌, subst, append_assoc}
 use Rattle.std.proofs.lemmas.Bool.{both_ways, or_parts}
 use Rattle.cg_base.specs.Parts.{◌>>=◌}
-use Rattle.cg_model.specs.Splitting.{operand_at}
-use Rattle.cg_model.specs.Squeezing.{is_joining, goes_on, put_first, words, ends, behind, spaced, marks, is_blank_mark, is_joining_mark, squeezed_syntax}
-use Rattle.cg_model.specs.declared.fault.MachineFault.{MachineFault}
+use Rattle.cg_model_source.specs.Splitting.{operand_at}
+use Rattle.cg_model_source.specs.Squeezing.{is_joining, goes_on, put_first, words, ends, behind, spaced, marks, is_blank_mark, is_joining_mark, squeezed_syntax}
+use Rattle.cg_model_faults.specs.declared.fault.MachineFault.{MachineFault}
 use Rattle.cg_model.specs.declared.insn.Piece.{Piece}
 use Rattle.cg_model.specs.declared.insn.Piece.TheVariants as piece
 use Rattle.cg_model.specs.declared.machine.Machine.{Machine}
 use Rattle.cg_model.specs.declared.operand.Operand.{Operand}
-use Rattle.cg_model.specs.declared.written.Mark.{Mark}
-use Rattle.cg_model.specs.declared.written.Mark.TheVariants.{Byte, Slot}
-use Rattle.cg_model.specs.faults.E312 as spec
-use Rattle.cg_model.specs.faults.E312.{has_words, may_have, undelimited_at, undelimited_piece, undelimited_from, undelimited}
+use Rattle.cg_model_source.specs.declared.written.Mark.{Mark}
+use Rattle.cg_model_source.specs.declared.written.Mark.TheVariants.{Byte, Slot}
+use Rattle.cg_model_faults.specs.E312 as spec
+use Rattle.cg_model_faults.specs.E312.{has_words, may_have, undelimited_at, undelimited_piece, undelimited_from, undelimited}
 use Rattle.cg_base.specs.Characters.{is_alphanumeric, is_in_word, is_in_sum}
-use Rattle.cg_model.specs.faults.Finding.{Faults, where_so, at_place}
-use Rattle.cg_model.specs.declared.fault.Said.TheVariants.{Own}
-use Rattle.cg_model.specs.declared.fault.Said.TheVariants as said
+use Rattle.cg_model_faults.specs.Finding.{Faults, where_so, at_place}
+use Rattle.cg_model_faults.specs.declared.fault.Said.TheVariants.{Own}
+use Rattle.cg_model_faults.specs.declared.fault.Said.TheVariants as said
 
 -- What stands next is a slot, or a character that passes the test.
 abbrev pub follows : (ℕ → Bool) → List Mark → Bool

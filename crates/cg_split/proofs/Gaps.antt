@@ -2,7 +2,7 @@
 use Rattle.std.specs.Prelude.{Bool, ◌&&◌, if◌then◌else◌, List, [], ◌∷◌, ◌++◌}
 use Rattle.std.proofs.Common.{◌≡◌, refl, sym, ap, ◌∙◌, append_assoc}
 use Rattle.std.proofs.lemmas.List.{append-nil}
-use Rattle.cg_model.specs.Squeezing.{begins, ends, behind, spaced}
+use Rattle.cg_model_source.specs.Squeezing.{begins, ends, behind, spaced}
 use Rattle.cg_split.specs.Gaps.{words_behind}
 use Rattle.cg_split.specs.declared.squeeze.Gap.TheVariants.{Start, Joining}
 

@@ -4,16 +4,17 @@ use Rattle.std.specs.List.{prefix_len}
 use Rattle.std.proofs.Common.{◌≡◌, refl, sym, ap, ◌∙◌, subst}
 use Rattle.std.proofs.lemmas.Bool.{both_ways, eqb-true}
 use Rattle.std.proofs.lemmas.List.{take-append-drop}
-use Rattle.cg_model.specs.Spelling.{lower, spelled}
-use Rattle.cg_model.specs.Splitting.{Spelling, operand_at, Splits, done, byte, slot, run_of, behind_run, spelling_in_front, split}
-use Rattle.cg_model.specs.Squeezing.{begins, squeezed_syntax}
+use Rattle.cg_model_source.specs.Spelling.{spelled}
+use Rattle.cg_model.specs.Words.{lower}
+use Rattle.cg_model_source.specs.Splitting.{Spelling, operand_at, Splits, done, byte, slot, run_of, behind_run, spelling_in_front, split}
+use Rattle.cg_model_source.specs.Squeezing.{begins, squeezed_syntax}
 use Rattle.cg_model.specs.declared.insn.Piece.{Piece}
 use Rattle.cg_model.specs.declared.machine.Machine.{Machine}
 use Rattle.cg_model.specs.declared.operand.Operand.{Operand}
-use Rattle.cg_model.specs.declared.written.Mark.{Mark}
-use Rattle.cg_model.specs.declared.written.Mark.TheVariants.{Byte, Slot}
-use Rattle.cg_model.specs.declared.written.Sum.{Sum}
-use Rattle.cg_model.specs.faults.E312.{may_have}
+use Rattle.cg_model_source.specs.declared.written.Mark.{Mark}
+use Rattle.cg_model_source.specs.declared.written.Mark.TheVariants.{Byte, Slot}
+use Rattle.cg_model_source.specs.declared.written.Sum.{Sum}
+use Rattle.cg_model_faults.specs.E312.{may_have}
 use Rattle.cg_split.specs.Laws.{SplitLaws}
 use Rattle.cg_split.proofs.Delimited.{follows, AreDelimited, syntax_delimited, same_some, none_is_none}
 use Rattle.cg_split.proofs.Runs.{run_taken, run_dropped, run_passes, alike}

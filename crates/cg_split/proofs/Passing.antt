@@ -5,14 +5,15 @@ use Rattle.std.specs.Option.{option_map}
 use Rattle.std.proofs.Common.{◌≡◌, refl, sym, ap, ◌∙◌, get_or, append_assoc, arith}
 use Rattle.std.proofs.Math.Seq.{drop-cons}
 use Rattle.std.proofs.lemmas.List.{append-nil, drop_all}
-use Rattle.cg_model.specs.Spelling.{lower, spelled}
-use Rattle.cg_model.specs.Splitting.{Spelling, operand_at, run_of, behind_run, spelling_in_front, split}
+use Rattle.cg_model_source.specs.Spelling.{spelled}
+use Rattle.cg_model.specs.Words.{lower}
+use Rattle.cg_model_source.specs.Splitting.{Spelling, operand_at, run_of, behind_run, spelling_in_front, split}
 use Rattle.cg_model.specs.declared.machine.Machine.{Machine}
 use Rattle.cg_model.specs.declared.operand.Operand.{Operand}
-use Rattle.cg_model.specs.declared.written.Mark.{Mark}
-use Rattle.cg_model.specs.declared.written.Mark.TheVariants.{Byte, Slot}
-use Rattle.cg_model.specs.declared.written.Sum.{Sum}
-use Rattle.cg_model.specs.faults.E312.{may_have}
+use Rattle.cg_model_source.specs.declared.written.Mark.{Mark}
+use Rattle.cg_model_source.specs.declared.written.Mark.TheVariants.{Byte, Slot}
+use Rattle.cg_model_source.specs.declared.written.Sum.{Sum}
+use Rattle.cg_model_faults.specs.E312.{may_have}
 use Rattle.cg_split.specs.Passing.{filled, takes, slot_passed, passed}
 use Rattle.cg_split.specs.declared.splitting.Filled.{Filled}
 use Rattle.cg_split.specs.declared.splitting.Taken.{Taken}

@@ -6,11 +6,11 @@ use Rattle.std.proofs.Math.Seq.{take-append_seam, drop-append_seam}
 use Rattle.std.proofs.lemmas.Bool.{and_parts, and_from}
 use Rattle.std.proofs.lemmas.Bool.Decides.{nat_tests}
 use Rattle.std.proofs.lemmas.List.Sums.{take_while-cons, prefix_len-le-length}
-use Rattle.cg_model.specs.Spelling.{lower}
-use Rattle.cg_model.specs.Squeezing.{begins}
+use Rattle.cg_model.specs.Words.{lower}
+use Rattle.cg_model_source.specs.Squeezing.{begins}
 use Rattle.cg_model.specs.declared.machine.Machine.{Machine}
 use Rattle.cg_model.specs.declared.operand.Operand.{Operand}
-use Rattle.cg_model.specs.faults.E312.{has_words, may_have}
+use Rattle.cg_model_faults.specs.E312.{has_words, may_have}
 use Rattle.cg_base.specs.Characters.{is_in_word, is_in_sum}
 
 -- A run ends where a text begins that goes on with other characters.

@@ -6,7 +6,7 @@ use Rattle.std.proofs.lemmas.Bool.{both_ways}
 use Rattle.std.proofs.lemmas.List.Sums.{prefix_len-le-length}
 use Rattle.std.proofs.lemmas.Grind.{common_steps}
 use Rattle.std.proofs.lemmas.List.{length-drop}
-use Rattle.cg_model.specs.Squeezing.{goes_on, put_first, words, ends}
+use Rattle.cg_model_source.specs.Squeezing.{goes_on, put_first, words, ends}
 
 pub at_most : {A : Type 0} (test : A → Bool) (xs : List A) → prefix_len test xs ≤ length xs
 at_most test xs = prefix_len-le-length test xs

@@ -1,6 +1,6 @@
 -- Words that follow one another: where a space stands in front of the next.
 use Rattle.std.specs.Prelude.{Bool, true, false, ◌&&◌, if◌then◌else◌, List, [], ◌∷◌, ◌++◌}
-use Rattle.cg_model.specs.Squeezing.{begins, ends}
+use Rattle.cg_model_source.specs.Squeezing.{begins, ends}
 use Rattle.cg_split.specs.declared.squeeze.Gap.{Gap}
 use Rattle.cg_split.specs.declared.squeeze.Gap.TheVariants.{Start, Space, Joining}
 

@@ -1,10 +1,10 @@
 -- What holds of the splits of a text.
 use Rattle.std.specs.Prelude.{◌≡◌, ℕ, List, [], Some}
-use Rattle.cg_model.specs.Splitting.{Spelling, Splits, split}
-use Rattle.cg_model.specs.Squeezing.{squeezed_syntax}
+use Rattle.cg_model_source.specs.Splitting.{Spelling, Splits, split}
+use Rattle.cg_model_source.specs.Squeezing.{squeezed_syntax}
 use Rattle.cg_model.specs.declared.insn.Piece.{Piece}
 use Rattle.cg_model.specs.declared.machine.Machine.{Machine}
-use Rattle.cg_model.specs.faults.E312.{undelimited}
+use Rattle.cg_model_faults.specs.E312.{undelimited}
 
 -- By a syntax whose slots have these operands.
 pub record SplitLaws (m : Machine) (operands : List ℕ) (pieces : List Piece) : Type 0 where

@@ -1,10 +1,10 @@
 //! The characters of a text, and those of a syntax.
 
 ghost use Rattle.std.specs.Prelude.{◌≡◌, Bool};
-ghost use Rattle.cg_model.specs.Squeezing as spec;
-ghost use Rattle.cg_model.specs.declared.written.Mark.TheVariants.{Byte};
+ghost use Rattle.cg_model_source.specs.Squeezing as spec;
+ghost use Rattle.cg_model_source.specs.declared.written.Mark.TheVariants.{Byte};
 
-use cg_model::Mark;
+use cg_model_source::Mark;
 
 /// A character, of which some are blanks.
 pub(crate) trait Character: Copy {

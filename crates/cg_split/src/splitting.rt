@@ -1,12 +1,13 @@
 ghost use Rattle.std.specs.Prelude.{◌≡◌, ◌≤◌, ◌++◌, length, drop, IfOk, OnOk, option_to_list};
 ghost use Rattle.std.specs.List.{prefix_len};
 ghost use Rattle.std.specs.Option.{option_copied, option_map};
-ghost use Rattle.cg_model.specs.Splitting as spec;
-ghost use Rattle.cg_model.specs.faults.E312 as runs;
+ghost use Rattle.cg_model_source.specs.Splitting as spec;
+ghost use Rattle.cg_model_faults.specs.E312 as runs;
 ghost use Rattle.cg_split.specs.Passing.{passed, byte_passed, slot_passed, filled};
 
 use cg_base::{List, NoMemory};
-use cg_model::{Machine, Mark, Operand, Sum};
+use cg_model::{Machine, Operand};
+use cg_model_source::{Mark, Sum};
 use cg_spelling::{Keywords, lower, may_have, spelled};
 use std::alloc::Global;
 

@@ -1,11 +1,12 @@
 ghost use Rattle.std.specs.Prelude.{◌≡◌, ◌<◌, ◌≤◌, [], ◌∷◌, ◌++◌, not, map, length, drop, MatchOption, IfOk, OnOk};
 ghost use Rattle.std.specs.List.{prefix_len};
-ghost use Rattle.cg_model.specs.Squeezing as spec;
+ghost use Rattle.cg_model_source.specs.Squeezing as spec;
 ghost use Rattle.cg_split.specs.Gaps.{wants_space, with_space, gap_behind};
 
 use crate::character::Character;
 use cg_base::{List, NoMemory, Text};
-use cg_model::{Mark, Piece};
+use cg_model::Piece;
+use cg_model_source::Mark;
 use std::alloc::Global;
 
 /// Where a space stands in front of the next word.

@@ -15,9 +15,9 @@ use Rattle.cg_choosing.specs.Trying.{told_choice, told}
 use Rattle.cg_choosing.specs.declared.trying.Choice as declared
 use Rattle.cg_code.proofs.Extracted.{word_bits_few}
 use Rattle.cg_fitting.proofs.Values.{drop_next}
-use Rattle.cg_model.specs.Bundling as spec
-use Rattle.cg_model.specs.Bundling.{chosen_part, part_of, parts_at}
-use Rattle.cg_model.specs.Choosing.{Choice, SourceFault, objection, bytes_for, values_for, first_out_of_range, assertion_objection, choice_objection, fits, unchosen, unfit, chosen_of, chosen, splitting, known_all}
+use Rattle.cg_model_source.specs.Bundling as spec
+use Rattle.cg_model_source.specs.Bundling.{chosen_part, part_of, parts_at}
+use Rattle.cg_model_source.specs.Choosing.{Choice, SourceFault, objection, bytes_for, values_for, first_out_of_range, assertion_objection, choice_objection, fits, unchosen, unfit, chosen_of, chosen, splitting, known_all}
 use Rattle.cg_model.specs.Clashing.{length_at}
 use Rattle.cg_model.specs.Encoding.{candidate, own_pc}
 use Rattle.cg_model.specs.Matching.{length_of}
@@ -25,7 +25,7 @@ use Rattle.cg_model.specs.Slots.{slots_of, values}
 use Rattle.cg_model.specs.Sound.{IsSound}
 use Rattle.cg_model.specs.declared.insn.Insn.{Insn}
 use Rattle.cg_model.specs.declared.machine.Machine.{Machine}
-use Rattle.cg_model.specs.declared.written.Sum.{Sum}
+use Rattle.cg_model_source.specs.declared.written.Sum.{Sum}
 use Rattle.cg_syntax.specs.Telling.{told_part, told_parts, part_size, label_of, first_term}
 use Rattle.cg_syntax.specs.declared.bundle.Part.{Part}
 use Rattle.cg_syntax.specs.declared.bundle.Part.TheVariants.{Empty, Refused, Stands}

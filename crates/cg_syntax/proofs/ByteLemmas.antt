@@ -11,8 +11,8 @@ use Rattle.cg_base.specs.declared.mode.Endian.TheVariants.{Big, Little}
 use Rattle.cg_choosing.proofs.TryingLemmas.{insns_within}
 use Rattle.cg_choosing.specs.Trying.{as_choice}
 use Rattle.cg_choosing.specs.declared.trying.Choice as declared
-use Rattle.cg_model.specs.Bundling.{with_bundle_bit, instruction_bytes}
-use Rattle.cg_model.specs.Choosing.{bytes_for, objection}
+use Rattle.cg_model_source.specs.Bundling.{with_bundle_bit, instruction_bytes}
+use Rattle.cg_model_source.specs.Choosing.{bytes_for, objection}
 use Rattle.cg_model.specs.Covers.{IsInWord, is_near}
 use Rattle.cg_model.specs.Encoding.{with_bits, with_word, word_with}
 use Rattle.cg_model.specs.Fields.{word_of}

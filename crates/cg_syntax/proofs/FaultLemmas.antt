@@ -6,17 +6,17 @@ use Rattle.std.proofs.Common.{◌≡◌, refl, ap, ◌∙◌}
 use Rattle.cg_base.specs.Refusing.{first}
 use Rattle.cg_base.specs.declared.refusal.Refusal.{Refusal}
 use Rattle.cg_choosing.specs.Trying.{fault_refusal}
-use Rattle.cg_model.specs.Bundling.{BundlePart, empty, refused, stands, all_refused_as}
-use Rattle.cg_model.specs.Choosing.{SourceFault, alone}
-use Rattle.cg_model.specs.Stating.{defined_label, named_labels, all_named_labels, statement_faults}
+use Rattle.cg_model_source.specs.Bundling.{BundlePart, empty, refused, stands, all_refused_as}
+use Rattle.cg_model_source.specs.Choosing.{SourceFault, alone}
+use Rattle.cg_model_source.specs.Stating.{defined_label, named_labels, all_named_labels, statement_faults}
 use Rattle.cg_model.specs.declared.machine.Machine.{Machine}
-use Rattle.cg_model.specs.declared.written.Sum.{Sum}
-use Rattle.cg_model.specs.declared.written.Term.{Term}
-use Rattle.cg_model.specs.source.E601.{unknown_parts}
-use Rattle.cg_model.specs.source.E602.{unfit_parts}
-use Rattle.cg_model.specs.source.E604.{undefined_terms, undefined_sums}
-use Rattle.cg_model.specs.source.E608.{empty_parts}
-use Rattle.cg_model.specs.source.E609.{too_wide}
+use Rattle.cg_model_source.specs.declared.written.Sum.{Sum}
+use Rattle.cg_model_source.specs.declared.written.Term.{Term}
+use Rattle.cg_model_source.specs.E601.{unknown_parts}
+use Rattle.cg_model_source.specs.E602.{unfit_parts}
+use Rattle.cg_model_source.specs.E604.{undefined_terms, undefined_sums}
+use Rattle.cg_model_source.specs.E608.{empty_parts}
+use Rattle.cg_model_source.specs.E609.{too_wide}
 use Rattle.cg_syntax.specs.Faulting.{said_alone, where_empty, where_wide, statement_fault}
 use Rattle.cg_syntax.specs.Telling.{told_part, told_parts, first_refused, label_of, first_term, part_label, first_label}
 

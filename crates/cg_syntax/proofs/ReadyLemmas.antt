@@ -6,20 +6,20 @@ use Rattle.std.proofs.lemmas.Bool.Decides.{nat_tests}
 use Rattle.cg_choosing.proofs.FrontLemmas.{same_some, none_is_none}
 use Rattle.cg_choosing.specs.Indexing.{GivesAll}
 use Rattle.cg_model.specs.declared.field.Field.{Field}
-use Rattle.cg_model.specs.declared.fault.Said.TheVariants as said
+use Rattle.cg_model_faults.specs.declared.fault.Said.TheVariants as said
 use Rattle.cg_model.specs.declared.insn.Given.{Given}
 use Rattle.cg_model.specs.declared.insn.Insn.{Insn}
 use Rattle.cg_model.specs.declared.insn.MacroInsn.{MacroInsn}
 use Rattle.cg_model.specs.declared.machine.Machine.{Machine}
-use Rattle.cg_model.specs.faults.Accepted.{IsAccepted}
-use Rattle.cg_model.specs.faults.E306 as e306
-use Rattle.cg_model.specs.faults.E308 as e308
-use Rattle.cg_model.specs.faults.E312.{undelimited}
-use Rattle.cg_model.specs.faults.E313.{slot_operands, written_twice, unmatched, ungiven_from, ungiven, unused}
-use Rattle.cg_model.specs.faults.E316.{is_bundle_bit, no_bundle_bit}
-use Rattle.cg_model.specs.faults.Elements.{of_bundle, emitted, macro_syntax, of_macro, of_texts}
-use Rattle.cg_model.specs.faults.Finding.{Faults, where_so, where_none, at_place}
-use Rattle.cg_model.specs.faults.Refusing.{first_refusal, by_data, by_modes, of_fields, of_multis, of_all_hardware, of_operands, of_insns, of_macros, spent_on_fields, spent_on_multis, spent_on_hardware}
+use Rattle.cg_model_faults.specs.Accepted.{IsAccepted}
+use Rattle.cg_model_faults.specs.E306 as e306
+use Rattle.cg_model_faults.specs.E308 as e308
+use Rattle.cg_model_faults.specs.E312.{undelimited}
+use Rattle.cg_model_faults.specs.E313.{slot_operands, written_twice, unmatched, ungiven_from, ungiven, unused}
+use Rattle.cg_model_faults.specs.E316.{is_bundle_bit, no_bundle_bit}
+use Rattle.cg_model_faults.specs.Elements.{of_bundle, emitted, macro_syntax, of_macro, of_texts}
+use Rattle.cg_model_faults.specs.Finding.{Faults, where_so, where_none, at_place}
+use Rattle.cg_model_faults.specs.Refusing.{first_refusal, by_data, by_modes, of_fields, of_multis, of_all_hardware, of_operands, of_insns, of_macros, spent_on_fields, spent_on_multis, spent_on_hardware}
 use Rattle.cg_sound.proofs.Clear.{Each, each, AllClear, clear, clear_front, all_clear, AreNone, all_none, front_none, back_none, later_none, test_false, not_true}
 use Rattle.cg_syntax.specs.Laying.{HasBundleBit}
 

@@ -9,17 +9,17 @@ use Rattle.cg_code.proofs.Extracted.{few_bits}
 use Rattle.cg_fitting.proofs.Fits.{operands_there}
 use Rattle.cg_fitting.proofs.Slots.{by_number, first_there, gotten, later_there}
 use Rattle.cg_fitting.specs.Slots.{operands_of, AreThere}
-use Rattle.cg_model.specs.Listing as spec
-use Rattle.cg_model.specs.Listing.{shown_value, shown_before, shown_marks, shown}
+use Rattle.cg_model_source.specs.Listing as spec
+use Rattle.cg_model_source.specs.Listing.{shown_value, shown_before, shown_marks, shown}
 use Rattle.cg_model.specs.Slots.{slots_of}
 use Rattle.cg_model.specs.Sound.{SoundInsn}
-use Rattle.cg_model.specs.Squeezing.{squeezed_syntax}
+use Rattle.cg_model_source.specs.Squeezing.{squeezed_syntax}
 use Rattle.cg_model.specs.declared.insn.Insn.{Insn}
 use Rattle.cg_model.specs.declared.machine.Machine.{Machine}
 use Rattle.cg_model.specs.declared.operand.Operand.{Operand}
-use Rattle.cg_model.specs.declared.written.Mark.{Mark}
-use Rattle.cg_model.specs.declared.written.Mark.TheVariants.{Byte, Slot}
-use Rattle.cg_model.specs.faults.E313.{slot_operands}
+use Rattle.cg_model_source.specs.declared.written.Mark.{Mark}
+use Rattle.cg_model_source.specs.declared.written.Mark.TheVariants.{Byte, Slot}
+use Rattle.cg_model_faults.specs.E313.{slot_operands}
 use Rattle.cg_syntax.specs.Showing.{slot_shown, mark_shown, marks_shown, shown_at}
 
 pub ruleset wording = (few_bits)

@@ -12,19 +12,19 @@ use Rattle.cg_choosing.specs.Indexing.{GivesAll}
 use Rattle.cg_choosing.specs.Trying.{told_choice, fault_refusal, as_choice, operands_at}
 use Rattle.cg_lines.specs.Seen.{seen_statement, seen_line}
 use Rattle.cg_lines.specs.declared.line.Line as declared_line
-use Rattle.cg_model.specs.Bundling as spec
-use Rattle.cg_model.specs.Bundling.{BundlePart, empty, refused, stands, chosen_part, part_of, parts_at, instruction_bytes, with_bundle_bit}
-use Rattle.cg_model.specs.Choosing.{Choice, SourceFault, bytes_for, known_all, chosen}
-use Rattle.cg_model.specs.Lining.{Statement, nothing, directive, bundle, is_readable, read_line}
+use Rattle.cg_model_source.specs.Bundling as spec
+use Rattle.cg_model_source.specs.Bundling.{BundlePart, empty, refused, stands, chosen_part, part_of, parts_at, instruction_bytes, with_bundle_bit}
+use Rattle.cg_model_source.specs.Choosing.{Choice, SourceFault, bytes_for, known_all, chosen}
+use Rattle.cg_model_source.specs.Lining.{Statement, nothing, directive, bundle, is_readable, read_line}
 use Rattle.cg_model.specs.Sound.{IsSound}
-use Rattle.cg_model.specs.Sourcing as sourcing
-use Rattle.cg_model.specs.Spelling.{keywords}
-use Rattle.cg_model.specs.Stating as stating
-use Rattle.cg_model.specs.Stating.{statement_faults, parts_bytes, unless_at_fault, stated_parts, stated_line, stated}
+use Rattle.cg_model_source.specs.Sourcing as sourcing
+use Rattle.cg_model_source.specs.Spelling.{keywords}
+use Rattle.cg_model_source.specs.Stating as stating
+use Rattle.cg_model_source.specs.Stating.{statement_faults, parts_bytes, unless_at_fault, stated_parts, stated_line, stated}
 use Rattle.cg_model.specs.declared.insn.Insn.{Insn}
 use Rattle.cg_model.specs.declared.machine.Machine.{Machine}
-use Rattle.cg_model.specs.faults.E313.{slot_operands}
-use Rattle.cg_model.specs.source.E608.{malformed_line}
+use Rattle.cg_model_faults.specs.E313.{slot_operands}
+use Rattle.cg_model_source.specs.E608.{malformed_line}
 use Rattle.cg_syntax.proofs.BundleLemmas.{same_pc, same_bytes}
 use Rattle.cg_syntax.proofs.FaultLemmas.{statement_told}
 use Rattle.cg_syntax.specs.Faulting.{said_alone, statement_fault, refusal_of}

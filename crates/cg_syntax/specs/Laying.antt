@@ -2,8 +2,8 @@
 use Rattle.std.specs.Prelude.{◌≡◌, ℕ, ◌+◌, ◌<◌, ◌≤◌, Bool, true, false, List, [], ◌∷◌, ◌++◌, length, ℤ, Option, Some, None, slice_get}
 use Rattle.cg_choosing.specs.Trying.{as_choice, operands_at}
 use Rattle.cg_choosing.specs.declared.trying.Choice.{Choice}
-use Rattle.cg_model.specs.Bundling.{instruction_bytes}
-use Rattle.cg_model.specs.Choosing.{Objection, objection, known_all}
+use Rattle.cg_model_source.specs.Bundling.{instruction_bytes}
+use Rattle.cg_model_source.specs.Choosing.{Objection, objection, known_all}
 use Rattle.cg_model.specs.declared.field.Field.{Field}
 use Rattle.cg_model.specs.declared.machine.Machine.{Machine}
 use Rattle.cg_syntax.specs.declared.bundle.Part.{Part}

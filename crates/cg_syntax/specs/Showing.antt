@@ -1,9 +1,9 @@
 -- How instructions are shown, slots by the numbers of their operands.
 use Rattle.std.specs.Prelude.{ℕ, List, [], ◌∷◌, Option, Some, None, slice_get}
-use Rattle.cg_model.specs.Listing.{shown_value, shown_before, shown}
+use Rattle.cg_model_source.specs.Listing.{shown_value, shown_before, shown}
 use Rattle.cg_model.specs.declared.machine.Machine.{Machine}
-use Rattle.cg_model.specs.declared.written.Mark.{Mark}
-use Rattle.cg_model.specs.declared.written.Mark.TheVariants.{Byte, Slot}
+use Rattle.cg_model_source.specs.declared.written.Mark.{Mark}
+use Rattle.cg_model_source.specs.declared.written.Mark.TheVariants.{Byte, Slot}
 
 abbrev pub operand_shown : Machine → ℕ → ℕ → Option (List ℕ)
 operand_shown m k value = elim (slice_get m.operands k) [ None ↦ None | Some o ↦ shown_value m o value ]

@@ -4,11 +4,11 @@ use Rattle.std.specs.List.{list_any}
 use Rattle.std.specs.Option.{option_or}
 use Rattle.cg_base.specs.declared.refusal.Refusal.{Refusal}
 use Rattle.cg_choosing.specs.Trying.{told_choice, fault_refusal}
-use Rattle.cg_model.specs.Bundling.{BundlePart, empty, refused, stands}
+use Rattle.cg_model_source.specs.Bundling.{BundlePart, empty, refused, stands}
 use Rattle.cg_model.specs.Clashing.{length_at}
 use Rattle.cg_model.specs.declared.machine.Machine.{Machine}
-use Rattle.cg_model.specs.declared.written.Sum.{Sum}
-use Rattle.cg_model.specs.declared.written.Term.{Term}
+use Rattle.cg_model_source.specs.declared.written.Sum.{Sum}
+use Rattle.cg_model_source.specs.declared.written.Term.{Term}
 use Rattle.cg_syntax.specs.declared.bundle.Part.{Part}
 use Rattle.cg_syntax.specs.declared.bundle.Part.TheVariants.{Empty, Refused, Stands}
 

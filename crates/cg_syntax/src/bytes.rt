@@ -5,7 +5,7 @@ ghost use Rattle.std.specs.Option.{option_map};
 ghost use Rattle.cg_choosing.specs.Indexing.{IsIndex};
 ghost use Rattle.cg_choosing.specs.Trying.{operands_at};
 ghost use Rattle.cg_fitting.specs.Misfits.{said};
-ghost use Rattle.cg_model.specs.Bundling as spec;
+ghost use Rattle.cg_model_source.specs.Bundling as spec;
 ghost use Rattle.cg_model.specs.Sound.{IsSound};
 ghost use Rattle.cg_syntax.specs.Laying.{HasBundleBit, objection_at, bytes_at};
 

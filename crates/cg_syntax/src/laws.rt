@@ -1,5 +1,5 @@
 ghost use Rattle.cg_choosing.specs.Indexing.{GivesAll};
-ghost use Rattle.cg_model.specs.faults.Accepted.{IsAccepted};
+ghost use Rattle.cg_model_faults.specs.Accepted.{IsAccepted};
 ghost use Rattle.cg_syntax.specs.Laying.{HasBundleBit};
 
 use cg_model::Machine;

@@ -5,14 +5,15 @@ ghost use Rattle.std.specs.Option.{option_copied, option_map};
 ghost use Rattle.cg_base.specs.Modes.{bits_of, is_signed};
 ghost use Rattle.cg_base.specs.Operations.{as_signed};
 ghost use Rattle.cg_code.specs.Coding.{AreValues};
-ghost use Rattle.cg_model.specs.faults.E313.{slot_operands};
-ghost use Rattle.cg_model.specs.Listing as spec;
+ghost use Rattle.cg_model_faults.specs.E313.{slot_operands};
+ghost use Rattle.cg_model_source.specs.Listing as spec;
 ghost use Rattle.cg_model.specs.Sound.{IsSound, SoundOperand};
 ghost use Rattle.cg_syntax.specs.Showing.{shown_at, slot_shown, marks_shown, mark_shown};
 
 use cg_base::{Mode, NoMemory, Text, bits, decimal, hex, signed};
 use cg_code::{insn_at, operand_at, slot_mode};
-use cg_model::{Hardware, HwKind, Machine, Mark, NamedValue, Operand, Part, Values};
+use cg_model::{Hardware, HwKind, Machine, NamedValue, Operand, Part, Values};
+use cg_model_source::Mark;
 use cg_split::squeezed_syntax;
 use std::alloc::Global;
 
@@ -86,7 +87,7 @@ fn shown_by(
 }
 
 /// How the value of an operand is shown.
-#[tactic(auto, unfolding(cg_model::specs::Listing::shown_value))]
+#[tactic(auto, unfolding(cg_model_source::specs::Listing::shown_value))]
 fn shown_value(
     alloc: Global,
     machine: &Machine,

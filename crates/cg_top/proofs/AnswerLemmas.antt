@@ -11,8 +11,8 @@ use Rattle.cg_top.specs.declared.asking.Assembly.{Assembly}
 use Rattle.cg_top.specs.declared.asking.Command.TheVariants.{Check, Decode, Assemble, ListImage}
 use Rattle.cg_gather.specs.declared.gathering.Fetched.{Fetched}
 use Rattle.cg_gather.specs.declared.gathering.Fetched.TheVariants.{Read, Refused, Unread}
-use Rattle.cg_model.specs.Imaging.{SourceRefusal, image}
-use Rattle.cg_model.specs.Sourcing.{only_set}
+use Rattle.cg_model_source.specs.Imaging.{SourceRefusal, image}
+use Rattle.cg_model_source.specs.Sourcing.{only_set}
 use Rattle.cg_model.specs.declared.machine.Machine.{Machine}
 use Rattle.cg_top.specs.declared.replies.NewFile.{NewFile}
 use Rattle.cg_top.specs.declared.replies.Reply.{Reply}

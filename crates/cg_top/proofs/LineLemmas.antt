@@ -1,7 +1,7 @@
 -- The lines of a text make the text.
 use Rattle.std.proofs.Common.{◌≡◌, ℕ, Bool, true, false, ◌==◌, if◌then◌else◌, List, [], ◌∷◌, refl, ap, ◌∙◌, sym}
 use Rattle.std.proofs.lemmas.Bool.{eqb-true}
-use Rattle.cg_model.specs.Lining.{parted_at, put_in_front}
+use Rattle.cg_model_source.specs.Lining.{parted_at, put_in_front}
 use Rattle.cg_top.specs.Lines.{lines_by, lines_of}
 use Rattle.cg_top.specs.Top.{text_of}
 

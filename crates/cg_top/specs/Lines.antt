@@ -1,6 +1,6 @@
 -- The lines of a text.
 use Rattle.std.specs.Prelude.{ℕ, List, [], ◌∷◌, ◌++◌}
-use Rattle.cg_model.specs.Lining.{parted_at}
+use Rattle.cg_model_source.specs.Lining.{parted_at}
 
 -- What stands behind the last end of a line, where there is anything.
 abbrev pub rest_of : List ℕ → List (List ℕ)

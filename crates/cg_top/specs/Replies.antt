@@ -14,9 +14,9 @@ use Rattle.cg_gather.specs.declared.gathering.Fetched.TheVariants.{Read, Refused
 use Rattle.cg_list.specs.Decoding.{decoded_line}
 use Rattle.cg_desc.specs.Answering.{as_stop}
 use Rattle.cg_model.specs.Clashing.{decoded_to}
-use Rattle.cg_model.specs.Imaging.{SourceRefusal, image}
-use Rattle.cg_model.specs.Listing.{listing}
-use Rattle.cg_model.specs.Sourcing.{only_set}
+use Rattle.cg_model_source.specs.Imaging.{SourceRefusal, image}
+use Rattle.cg_model_source.specs.Listing.{listing}
+use Rattle.cg_model_source.specs.Sourcing.{only_set}
 use Rattle.cg_model.specs.declared.machine.Machine.{Machine}
 use Rattle.cg_top.specs.declared.replies.Reply.{Reply}
 use Rattle.cg_top.specs.Lines.{lines_of}

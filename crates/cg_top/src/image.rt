@@ -1,8 +1,8 @@
 ghost use Rattle.std.specs.Prelude.{◌≡◌, ◌∷◌, [], Ok, IfOk};
 ghost use Rattle.cg_asm.specs.Placing.{seen_refusal};
-ghost use Rattle.cg_model.specs.Imaging.{image};
-ghost use Rattle.cg_model.specs.Sourcing.{only_set};
-ghost use Rattle.cg_model.specs.faults.Accepted.{IsAccepted};
+ghost use Rattle.cg_model_source.specs.Imaging.{image};
+ghost use Rattle.cg_model_source.specs.Sourcing.{only_set};
+ghost use Rattle.cg_model_faults.specs.Accepted.{IsAccepted};
 ghost use Rattle.cg_top.specs.Replies.{assembled, image_line, refusal_line, reply, source_refusal};
 
 use crate::asking::Assembly;

@@ -2,9 +2,9 @@ ghost use Rattle.std.specs.Prelude.{◌≡◌, ℕ, ◌+◌, ◌^◌, ◌≤◌,
 ghost use Rattle.cg_io.specs.Asking.{Asking};
 ghost use Rattle.cg_io.specs.Held.{Held};
 ghost use Rattle.cg_model.specs.Clashing.{AreBytes};
-ghost use Rattle.cg_model.specs.Imaging.{image};
-ghost use Rattle.cg_model.specs.Sourcing.{only_set};
-ghost use Rattle.cg_model.specs.faults.Accepted.{IsAccepted};
+ghost use Rattle.cg_model_source.specs.Imaging.{image};
+ghost use Rattle.cg_model_source.specs.Sourcing.{only_set};
+ghost use Rattle.cg_model_faults.specs.Accepted.{IsAccepted};
 ghost use Rattle.cg_top.specs.declared.asking.Command.TheVariants.{ListImage};
 ghost use Rattle.cg_top.specs.declared.asking.Listing.{Listing};
 ghost use Rattle.cg_top.specs.declared.replies.Reply.{Reply as Replied};

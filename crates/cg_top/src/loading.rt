@@ -1,6 +1,6 @@
 ghost use Rattle.std.specs.Prelude.{⊤};
 ghost use Rattle.cg_base.specs.Answering.{Answered};
-ghost use Rattle.cg_model.specs.faults.Accepted.{IsAccepted};
+ghost use Rattle.cg_model_faults.specs.Accepted.{IsAccepted};
 ghost use Rattle.cg_top.specs.Loading.{Loads};
 
 use cg_base::{Forms, Stop, Text};

@@ -2,7 +2,7 @@ ghost use Rattle.std.specs.Prelude.{◌≡◌, ◌≤◌, IfOk, OnOk, ◌++◌, 
 ghost use Rattle.cg_base.specs.Counts.{Rose};
 ghost use Rattle.cg_io.specs.Asking.{Asking};
 ghost use Rattle.cg_io.specs.Held.{Held, appended, AppendsFront};
-ghost use Rattle.cg_model.specs.faults.Accepted.{IsAccepted};
+ghost use Rattle.cg_model_faults.specs.Accepted.{IsAccepted};
 ghost use Rattle.cg_top.specs.Replies.{reply, decimal_of, behind_blank, refusal_line, name_of, refused, cannot_read, cannot_write, bad_words, count_line, performed, IsDescribed, RepliesTo};
 ghost use Rattle.cg_top.specs.declared.replies.Reply.{Reply as Replied};
 ghost use Rattle.cg_top.specs.Answer.{Answer, IsReply, IsReplyTo};

@@ -15,7 +15,7 @@ use Rattle.cg_model.specs.declared.insn.Part.TheVariants.{Constant, Slot}
 use Rattle.cg_model.specs.declared.machine.Machine.{Machine}
 use Rattle.cg_model.specs.declared.operand.Operand.{Operand}
 use Rattle.cg_model.specs.declared.rtl.Rtl.{Rtl}
-use Rattle.cg_model.specs.faults.E313.{slot_operands}
+use Rattle.cg_model_faults.specs.E313.{slot_operands}
 use Rattle.tests_bits.specs.Judged.{Each, MayAssert, HasSoundElements}
 use Rattle.tests_bits.proofs.FieldLaws.{each}
 

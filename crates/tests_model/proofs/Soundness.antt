@@ -17,7 +17,7 @@ use Rattle.cg_model.specs.declared.rtl.Op.{Op}
 use Rattle.cg_model.specs.declared.rtl.Op.TheVariants as op
 use Rattle.cg_model.specs.declared.rtl.Rtl.{Rtl, Rtl-F, roll-Rtl, out-roll-Rtl}
 use Rattle.cg_model.specs.declared.rtl.Rtl.TheFolds.{fold-roll-Rtl}
-use Rattle.cg_model.proofs.Meanings.{written_out}
+use Rattle.cg_model_effects.proofs.Effects.{effects_written_out}
 use Rattle.tests_model.specs.Examples.{rtl, nibble, number, on_two, field_named, tiny, displacement, apart, add_below_15, twin, add_parts}
 
 -- what holds of a thing that may be there
@@ -51,7 +51,7 @@ named_out : (m : Machine) (o : Op) (mode : Option Mode) (n : ℤ) (items : List 
 unfolding named_bits
 named_out m o mode n items = fold-roll-Rtl ℕ (named_step m) (record { op = o; mode = mode; number = n; items = items })
 
-ruleset folds = (written_out, pure_out, allowed_out, named_out)
+ruleset folds = (effects_written_out, pure_out, allowed_out, named_out)
 
 -- how many nodes expressions have
 nodes_layer : Machine → ℕ → Rtl-F Rtl → Option ℕ

@@ -6,11 +6,11 @@ use Rattle.cg_base.specs.declared.Mode.TheVariants.{Si, Usi}
 use Rattle.cg_model.specs.Pure.{pure_value}
 use Rattle.cg_model.specs.Fields.{around_value}
 use Rattle.cg_model.specs.Slots.{in_rule}
-use Rattle.cg_model.specs.Asking.{Held, nothing_held, Ask, Access, Ending, ending}
-use Rattle.cg_model.specs.Effects.{Before, effect_meaning, all_rules}
-use Rattle.cg_model.specs.declared.outcome.Change.{Change}
-use Rattle.cg_model.specs.declared.outcome.Change.TheVariants.{Now, Later}
-use Rattle.cg_model.specs.declared.outcome.Place.{Place}
+use Rattle.cg_model_effects.specs.Asking.{Held, nothing_held, Ask, Access, Ending, ending}
+use Rattle.cg_model_effects.specs.Effects.{Before, effect_meaning, all_rules}
+use Rattle.cg_model_effects.specs.declared.outcome.Change.{Change}
+use Rattle.cg_model_effects.specs.declared.outcome.Change.TheVariants.{Now, Later}
+use Rattle.cg_model_effects.specs.declared.outcome.Place.{Place}
 use Rattle.cg_model.specs.declared.field.Field.{Field}
 use Rattle.cg_model.specs.declared.field.Multi.{Multi}
 use Rattle.cg_model.specs.declared.hardware.Hardware.{Hardware}

@@ -2,13 +2,13 @@
 use Rattle.std.specs.Prelude.{[], ◌∷◌, ◌++◌, codes, pos, Ok, Err}
 use Rattle.std.specs.Fmt.{signed_decimal}
 use Rattle.std.proofs.Common.{◌≡◌, refl}
-use Rattle.cg_model.specs.Choosing.{objection, chosen}
-use Rattle.cg_model.specs.Imaging.{image}
-use Rattle.cg_model.specs.Lining.{read_line}
-use Rattle.cg_model.specs.Sourcing.{only_set, reading}
-use Rattle.cg_model.specs.Spelling.{sum_of, spelled}
-use Rattle.cg_model.specs.Splitting.{split}
-use Rattle.cg_model.specs.Squeezing.{squeezed}
+use Rattle.cg_model_source.specs.Choosing.{objection, chosen}
+use Rattle.cg_model_source.specs.Imaging.{image}
+use Rattle.cg_model_source.specs.Lining.{read_line}
+use Rattle.cg_model_source.specs.Sourcing.{only_set, reading}
+use Rattle.cg_model_source.specs.Spelling.{sum_of, spelled}
+use Rattle.cg_model_source.specs.Splitting.{split}
+use Rattle.cg_model_source.specs.Squeezing.{squeezed}
 use Rattle.tests_syntax.specs.Examples.{tiny, refused}
 
 pub once : squeezed (codes "  add   r1 , r2 ") ≡ codes "add r1,r2"

@@ -2,7 +2,7 @@
 use Rattle.std.specs.Prelude.{ℕ, true, false, pos, List, [], ◌∷◌, Some, None, codes}
 use Rattle.cg_base.specs.declared.Endian.TheVariants.{Big}
 use Rattle.cg_base.specs.declared.Mode.TheVariants.{Si, Usi}
-use Rattle.cg_model.specs.Imaging.{SourceRefusal}
+use Rattle.cg_model_source.specs.Imaging.{SourceRefusal}
 use Rattle.cg_model.specs.declared.field.Field.{Field}
 use Rattle.cg_model.specs.declared.hardware.Hardware.{Hardware}
 use Rattle.cg_model.specs.declared.hardware.HwKind.TheVariants.{Register, Immediate}

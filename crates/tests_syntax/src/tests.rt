@@ -1,8 +1,8 @@
 ghost use Rattle.std.specs.Prelude.{◌≡◌, [], ◌∷◌, ◌++◌, codes, pos, Ok, Err};
 ghost use Rattle.std.specs.Fmt.{signed_decimal};
-ghost use Rattle.cg_model.specs.Squeezing.{squeezed};
-ghost use Rattle.cg_model.specs.Imaging.{image};
-ghost use Rattle.cg_model.specs.Sourcing.{only_set};
+ghost use Rattle.cg_model_source.specs.Squeezing.{squeezed};
+ghost use Rattle.cg_model_source.specs.Imaging.{image};
+ghost use Rattle.cg_model_source.specs.Sourcing.{only_set};
 ghost use Rattle.tests_syntax.specs.Examples.{tiny, refused};
 
 /// Blanks stay where both sides join, and once besides.

@@ -1,5 +1,5 @@
 use Rattle.std.proofs.Common.{◌≡◌, ◌++◌, drop}
-use Rattle.cg_model.specs.faults.Refusing.{hex_bytes}
+use Rattle.cg_model_faults.specs.Refusing.{hex_bytes}
 use Rattle.cg_accept.proofs.clash.hex_bytes.Given as goal
 
 abbrev pub invariant-loop-byte : goal.invariant-loop-byte

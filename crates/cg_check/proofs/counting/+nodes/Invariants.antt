@@ -1,5 +1,5 @@
 use Rattle.std.proofs.Common.{◌≡◌, ◌+◌, drop, map}
-use Rattle.cg_model.specs.faults.E308.{sum_of, nodes}
+use Rattle.cg_model_faults.specs.E308.{sum_of, nodes}
 use Rattle.cg_check.proofs.counting.+nodes.Given as goal
 
 -- the nodes so far, with those that are left, are all

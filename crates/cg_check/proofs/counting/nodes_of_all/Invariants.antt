@@ -1,5 +1,5 @@
 use Rattle.std.proofs.Common.{◌≡◌, ◌+◌, drop}
-use Rattle.cg_model.specs.faults.E308.{nodes_of_all}
+use Rattle.cg_model_faults.specs.E308.{nodes_of_all}
 use Rattle.cg_check.proofs.counting.nodes_of_all.Given as goal
 
 -- the nodes so far, with those that are left, are all

@@ -1,5 +1,5 @@
 use Rattle.std.proofs.Common.{◌≡◌, ◌++◌, drop}
-use Rattle.cg_model.specs.faults.E313.{slot_operands}
+use Rattle.cg_model_faults.specs.E313.{slot_operands}
 use Rattle.cg_check.proofs.elements.slots_of.Given as goal
 
 -- the slots so far, with those that are left, are all

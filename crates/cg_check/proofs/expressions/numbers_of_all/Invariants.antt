@@ -1,6 +1,6 @@
 use Rattle.std.proofs.Common.{◌≡◌, drop}
 use Rattle.cg_base.specs.Refusing.{first}
-use Rattle.cg_model.specs.faults.Elements.{of_all, numbers_of}
+use Rattle.cg_model_faults.specs.Elements.{of_all, numbers_of}
 use Rattle.cg_check.proofs.expressions.numbers_of_all.Given as goal
 
 -- what is left has the first fault of the whole

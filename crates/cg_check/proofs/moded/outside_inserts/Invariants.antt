@@ -1,7 +1,7 @@
 use Rattle.std.proofs.Common.{◌≡◌, drop}
 use Rattle.cg_base.specs.Refusing.{first}
-use Rattle.cg_model.specs.faults.Elements.{inserts_judged}
-use Rattle.cg_model.specs.faults.Judging.{all_outside}
+use Rattle.cg_model_faults.specs.Elements.{inserts_judged}
+use Rattle.cg_model_faults.specs.Judging.{all_outside}
 use Rattle.cg_check.proofs.moded.outside_inserts.Given as goal
 
 -- what is left has the first fault of the whole

@@ -1,6 +1,6 @@
 use Rattle.std.proofs.Common.{◌≡◌, drop}
 use Rattle.cg_base.specs.Refusing.{first}
-use Rattle.cg_model.specs.faults.E308.{long_literals}
+use Rattle.cg_model_faults.specs.E308.{long_literals}
 use Rattle.cg_check.proofs.texts.first_long_literal.Given as goal
 
 abbrev pub invariant-loop-piece : goal.invariant-loop-piece

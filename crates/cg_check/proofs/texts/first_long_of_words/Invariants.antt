@@ -1,6 +1,6 @@
 use Rattle.std.proofs.Common.{◌≡◌, drop}
 use Rattle.cg_base.specs.Refusing.{first}
-use Rattle.cg_model.specs.faults.E308.{long_words}
+use Rattle.cg_model_faults.specs.E308.{long_words}
 use Rattle.cg_check.proofs.texts.first_long_of_words.Given as goal
 
 abbrev pub invariant-loop-named : goal.invariant-loop-named

@@ -1,6 +1,6 @@
 use Rattle.std.specs.Prelude.{◌<◌, length}
 use Rattle.std.proofs.Common.{arith}
-use Rattle.cg_model.specs.Choosing.{known_all}
+use Rattle.cg_model_source.specs.Choosing.{known_all}
 use Rattle.cg_choosing.proofs.OrderLemmas.{known_more}
 use Rattle.cg_choosing.proofs.order.known_all.Goals as goal
 

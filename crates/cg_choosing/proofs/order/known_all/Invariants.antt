@@ -1,5 +1,5 @@
 use Rattle.std.proofs.Common.{◌≡◌, ◌++◌, drop}
-use Rattle.cg_model.specs.Choosing.{known_all}
+use Rattle.cg_model_source.specs.Choosing.{known_all}
 use Rattle.cg_choosing.proofs.order.known_all.Given as goal
 
 -- with those of the sums that are left they are all

@@ -2,7 +2,7 @@ use Rattle.std.specs.Option.{option_map}
 use Rattle.std.proofs.Common.{◌≡◌, subst}
 use Rattle.cg_choosing.specs.Trying.{outcome, trying}
 use Rattle.cg_fitting.specs.Misfits.{said}
-use Rattle.cg_model.specs.Choosing.{insns_splitting}
+use Rattle.cg_model_source.specs.Choosing.{insns_splitting}
 use Rattle.cg_choosing.proofs.TryingLemmas.{insns_chosen, macros_tried}
 use Rattle.cg_choosing.proofs.trying.try_all.Goals as goal
 

@@ -2,7 +2,7 @@ use Rattle.std.specs.Prelude.{slice_get}
 use Rattle.std.proofs.Common.{sym, ap, ◌∙◌}
 use Rattle.cg_choosing.proofs.IndexLemmas.{insn_pattern_is, pattern_front}
 use Rattle.cg_choosing.proofs.trying.try_insn.Goals as goal
-use Rattle.cg_model.specs.faults.E313.{slot_operands}
+use Rattle.cg_model_faults.specs.E313.{slot_operands}
 
 pub filled_by-requires-clause-pattern : goal.filled_by-requires-clause-pattern
 filled_by-requires-clause-pattern c =

@@ -3,7 +3,7 @@ use Rattle.std.specs.Prelude.{◌<◌, length}
 use Rattle.std.proofs.Common.{◌≡◌, subst, arith}
 use Rattle.cg_choosing.specs.Trying.{outcome, trying, written_at}
 use Rattle.cg_fitting.specs.Misfits.{said}
-use Rattle.cg_model.specs.Choosing.{insns_splitting}
+use Rattle.cg_model_source.specs.Choosing.{insns_splitting}
 use Rattle.cg_choosing.proofs.TryingLemmas.{insn_chosen, insn_passed}
 use Rattle.cg_choosing.proofs.trying.try_insns.Goals as goal
 

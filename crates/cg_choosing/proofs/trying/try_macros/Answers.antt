@@ -3,7 +3,7 @@ use Rattle.std.specs.Prelude.{◌<◌, length}
 use Rattle.std.proofs.Common.{◌≡◌, subst, arith}
 use Rattle.cg_choosing.specs.Trying.{outcome, trying, emitted_at}
 use Rattle.cg_fitting.specs.Misfits.{said}
-use Rattle.cg_model.specs.Choosing.{macros_splitting}
+use Rattle.cg_model_source.specs.Choosing.{macros_splitting}
 use Rattle.cg_choosing.proofs.TryingLemmas.{macro_chosen, macro_passed}
 use Rattle.cg_choosing.proofs.trying.try_macros.Goals as goal
 

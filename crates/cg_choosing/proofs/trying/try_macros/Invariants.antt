@@ -3,7 +3,7 @@ use Rattle.cg_choosing.proofs.TryingLemmas.{MacrosLeft}
 use Rattle.cg_choosing.proofs.trying.try_macros.Given as goal
 use Rattle.cg_choosing.specs.Trying.{trying}
 use Rattle.cg_fitting.specs.Misfits.{said}
-use Rattle.cg_model.specs.Choosing.{macros_splitting}
+use Rattle.cg_model_source.specs.Choosing.{macros_splitting}
 
 -- what came so far, with what is left, is what comes of the whole
 abbrev pub invariant-loop-k : goal.invariant-loop-k

@@ -2,7 +2,7 @@ use Rattle.std.proofs.Common.{map, drop}
 use Rattle.cg_content.proofs.OrderLemmas.{SumsLeft}
 use Rattle.cg_content.proofs.order.sums_of.Given as goal
 use Rattle.cg_base.specs.Texts.{seen_text}
-use Rattle.cg_model.specs.Sourcing.{sums_of}
+use Rattle.cg_model_source.specs.Sourcing.{sums_of}
 
 -- with those of the texts that are left they are all
 abbrev pub invariant-loop-text : goal.invariant-loop-text

@@ -1,6 +1,6 @@
 use Rattle.std.proofs.Common.{◌≡◌, drop}
 use Rattle.cg_base.specs.Refusing.{first}
-use Rattle.cg_model.specs.faults.E308.{long_texts}
+use Rattle.cg_model_faults.specs.E308.{long_texts}
 use Rattle.cg_counts.specs.E308.{literals}
 use Rattle.cg_counts.proofs.texts.first_literal.Given as goal
 

@@ -1,7 +1,7 @@
 use Rattle.std.proofs.Common.{◌≡◌, drop}
 use Rattle.std.specs.List.{flat_map}
 use Rattle.cg_base.specs.Refusing.{first}
-use Rattle.cg_model.specs.faults.E308.{long_texts}
+use Rattle.cg_model_faults.specs.E308.{long_texts}
 use Rattle.cg_said.specs.Subject.{all_lent}
 use Rattle.cg_counts.specs.E308.{insn_texts}
 use Rattle.cg_counts.proofs.texts.first_of_insns.Given as goal

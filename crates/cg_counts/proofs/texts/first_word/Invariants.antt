@@ -1,6 +1,6 @@
 use Rattle.std.proofs.Common.{◌≡◌, map, drop}
 use Rattle.cg_base.specs.Refusing.{first}
-use Rattle.cg_model.specs.faults.E308.{long_texts}
+use Rattle.cg_model_faults.specs.E308.{long_texts}
 use Rattle.cg_counts.specs.E308.{word_text}
 use Rattle.cg_counts.proofs.texts.first_word.Given as goal
 

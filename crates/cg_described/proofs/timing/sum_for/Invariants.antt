@@ -1,5 +1,5 @@
 use Rattle.std.proofs.Common.{◌≡◌, ◌+◌, ◌*◌, ◌≤◌, map, drop}
-use Rattle.cg_model.specs.faults.E308.{sum_of}
+use Rattle.cg_model_faults.specs.E308.{sum_of}
 use Rattle.cg_described.specs.Timing.{cycles_at}
 use Rattle.cg_described.specs.Lent.{seen_units, seen_forms}
 use Rattle.cg_described.proofs.timing.sum_for.Given as goal

@@ -1,7 +1,7 @@
 use Rattle.std.specs.Prelude.{take}
 use Rattle.std.proofs.Common.{◌≡◌, ◌∙◌}
 use Rattle.cg_fitting.specs.Slots.{operands_of}
-use Rattle.cg_model.specs.Choosing.{values_for}
+use Rattle.cg_model_source.specs.Choosing.{values_for}
 use Rattle.cg_fitting.proofs.Fits.{bytes_are, objection_is}
 use Rattle.cg_fitting.proofs.fitting.fit.Goals as goal
 

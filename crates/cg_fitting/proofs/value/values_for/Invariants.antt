@@ -1,6 +1,6 @@
 use Rattle.std.proofs.Common.{◌≡◌, ◌++◌, drop}
 use Rattle.cg_fitting.specs.Slots.{operands_of}
-use Rattle.cg_model.specs.Choosing.{values_for}
+use Rattle.cg_model_source.specs.Choosing.{values_for}
 use Rattle.cg_fitting.proofs.value.values_for.Given as goal
 
 -- with those of the slots that are left they are the values of the whole

@@ -1,5 +1,5 @@
 use Rattle.std.proofs.Common.{◌≡◌, length}
-use Rattle.cg_model.specs.Lining.{without_end}
+use Rattle.cg_model_source.specs.Lining.{without_end}
 use Rattle.cg_lines.proofs.blank.without_end.Given as goal
 
 -- what is left ends as the whole does

@@ -2,7 +2,7 @@ use Rattle.std.specs.Prelude.{◌-◌, ◌≤◌, map, length, take, drop}
 use Rattle.std.proofs.Common.{get_or, arith}
 use Rattle.std.proofs.lemmas.Grind.{common_steps}
 use Rattle.cg_base.specs.Texts.{seen_text}
-use Rattle.cg_model.specs.Lining.{parted_at}
+use Rattle.cg_model_source.specs.Lining.{parted_at}
 use Rattle.cg_lines.proofs.Parted.{part_last, part_next, behind_first}
 use Rattle.cg_lines.proofs.part.parted_at.Goals as goal
 

@@ -1,6 +1,6 @@
 use Rattle.std.proofs.Common.{◌≡◌, ◌++◌, map, length}
 use Rattle.cg_base.specs.Texts.{seen_text}
-use Rattle.cg_model.specs.Lining.{parted_at}
+use Rattle.cg_model_source.specs.Lining.{parted_at}
 use Rattle.cg_lines.proofs.part.parted_at.Given as goal
 
 -- with those of what is left they are the parts of the whole

@@ -2,7 +2,7 @@ use Rattle.std.specs.Prelude.{◌-◌, ◌≤◌, map, length, take, drop}
 use Rattle.std.proofs.Common.{get_or, arith}
 use Rattle.std.proofs.lemmas.Grind.{common_steps}
 use Rattle.cg_base.specs.Texts.{seen_text}
-use Rattle.cg_model.specs.Lining.{parted_at_bars}
+use Rattle.cg_model_source.specs.Lining.{parted_at_bars}
 use Rattle.cg_lines.proofs.Parted.{bars_last, bars_next, behind_two}
 use Rattle.cg_lines.proofs.part.parted_at_bars.Goals as goal
 

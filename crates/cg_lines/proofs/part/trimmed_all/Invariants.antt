@@ -1,6 +1,6 @@
 use Rattle.std.proofs.Common.{◌≡◌, ◌++◌, map, drop}
 use Rattle.cg_base.specs.Texts.{seen_text}
-use Rattle.cg_model.specs.Lining.{trimmed_all}
+use Rattle.cg_model_source.specs.Lining.{trimmed_all}
 use Rattle.cg_lines.proofs.part.trimmed_all.Given as goal
 
 -- with those of what is left they are the whole

@@ -1,7 +1,7 @@
 use Rattle.std.proofs.Common.{◌-◌, sym, ap, refl, ◌∙◌}
 use Rattle.std.proofs.lemmas.List.{take_rest}
 use Rattle.std.specs.Option.{option_map}
-use Rattle.cg_model.specs.Listing.{bundle_from}
+use Rattle.cg_model_source.specs.Listing.{bundle_from}
 use Rattle.cg_tree.specs.Finding.{found}
 use Rattle.cg_list.specs.Seen.{seen}
 use Rattle.cg_list.proofs.Bundled.{found_matches, matching_within, front_long, front_base, by_more}

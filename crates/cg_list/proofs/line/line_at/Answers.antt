@@ -1,6 +1,6 @@
 use Rattle.std.proofs.Common.{sym, ap, ◌∙◌}
 use Rattle.std.specs.Option.{option_map}
-use Rattle.cg_model.specs.Listing.{line_for}
+use Rattle.cg_model_source.specs.Listing.{line_for}
 use Rattle.cg_tree.specs.Finding.{found}
 use Rattle.cg_list.specs.Seen.{seen, seen_line}
 use Rattle.cg_list.proofs.Lined.{line_by}

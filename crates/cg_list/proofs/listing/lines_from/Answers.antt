@@ -1,6 +1,6 @@
 use Rattle.std.proofs.Common.{◌+◌, ◌-◌, ◌++◌, sym, ap, ◌∙◌, refl, subst}
 use Rattle.std.proofs.lemmas.List.{take_rest}
-use Rattle.cg_model.specs.Listing.{line_at}
+use Rattle.cg_model_source.specs.Listing.{line_at}
 use Rattle.cg_tree.specs.Finding.{found}
 use Rattle.cg_list.specs.Seen.{seen_line}
 use Rattle.cg_list.proofs.Listed.{Listing, list_skip, list_line_past}

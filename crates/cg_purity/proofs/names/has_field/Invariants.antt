@@ -1,6 +1,6 @@
 use Rattle.std.proofs.Common.{◌≡◌, drop}
-use Rattle.cg_model.specs.faults.Finding.{stands_in}
-use Rattle.cg_model.specs.faults.E306.{format_fields}
+use Rattle.cg_model_faults.specs.Finding.{stands_in}
+use Rattle.cg_model_faults.specs.E306.{format_fields}
 use Rattle.cg_purity.proofs.names.has_field.Given as goal
 
 -- it stands in what is left as in the whole

@@ -1,5 +1,5 @@
 use Rattle.std.proofs.Common.{◌≡◌, drop}
-use Rattle.cg_model.specs.faults.Finding.{stands_in}
+use Rattle.cg_model_faults.specs.Finding.{stands_in}
 use Rattle.cg_purity.proofs.names.is_among.Given as goal
 
 -- it stands in what is left as in the whole

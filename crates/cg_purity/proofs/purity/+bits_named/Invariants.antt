@@ -1,6 +1,6 @@
 use Rattle.std.proofs.Common.{◌≡◌, drop, map, bit_or}
 use Rattle.cg_model.specs.Covers.{all_bits}
-use Rattle.cg_model.specs.faults.E315.{bits_named}
+use Rattle.cg_model_faults.specs.E315.{bits_named}
 use Rattle.cg_purity.proofs.purity.+bits_named.Given as goal
 
 -- what is gathered, with what is left, is the whole

@@ -1,6 +1,6 @@
 use Rattle.std.proofs.Common.{◌≡◌, drop, map}
 use Rattle.cg_model.specs.Placed.{each_needed, needed_by}
-use Rattle.cg_model.specs.faults.E314.{one_leads}
+use Rattle.cg_model_faults.specs.E314.{one_leads}
 use Rattle.cg_purity.specs.Tables.{seen_rule, in_table}
 use Rattle.cg_purity.proofs.rule.+expression_leads.Given as goal
 

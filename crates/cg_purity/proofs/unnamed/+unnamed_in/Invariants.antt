@@ -1,6 +1,6 @@
 use Rattle.std.proofs.Common.{◌≡◌, drop, map}
 use Rattle.cg_base.specs.Refusing.{first}
-use Rattle.cg_model.specs.faults.E306.{each_within, unnamed_in}
+use Rattle.cg_model_faults.specs.E306.{each_within, unnamed_in}
 use Rattle.cg_purity.proofs.unnamed.+unnamed_in.Given as goal
 
 -- what is left has the first fault of the whole

@@ -1,6 +1,6 @@
 use Rattle.std.proofs.Common.{◌≡◌, drop, map}
 use Rattle.cg_base.specs.Refusing.{first}
-use Rattle.cg_model.specs.faults.Finding.{of_each, in_nodes}
+use Rattle.cg_model_faults.specs.Finding.{of_each, in_nodes}
 use Rattle.cg_purity.proofs.walk.+first_in.Given as goal
 
 -- what is left has the first fault of the whole

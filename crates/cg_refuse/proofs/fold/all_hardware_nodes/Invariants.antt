@@ -1,5 +1,5 @@
 use Rattle.std.proofs.Common.{◌≡◌, ◌+◌, drop}
-use Rattle.cg_model.specs.faults.E308.{all_hardware_nodes}
+use Rattle.cg_model_faults.specs.E308.{all_hardware_nodes}
 use Rattle.cg_refuse.proofs.fold.all_hardware_nodes.Given as goal
 
 abbrev pub invariant-loop-each : goal.invariant-loop-each

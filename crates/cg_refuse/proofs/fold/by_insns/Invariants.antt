@@ -1,5 +1,5 @@
 use Rattle.std.proofs.Common.{◌≡◌, drop}
-use Rattle.cg_model.specs.faults.Refusing.{first_found, of_insns}
+use Rattle.cg_model_faults.specs.Refusing.{first_found, of_insns}
 use Rattle.cg_refuse.proofs.fold.by_insns.Given as goal
 
 abbrev pub invariant-loop-k : goal.invariant-loop-k

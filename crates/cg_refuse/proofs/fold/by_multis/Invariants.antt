@@ -1,5 +1,5 @@
 use Rattle.std.proofs.Common.{◌≡◌, drop}
-use Rattle.cg_model.specs.faults.Refusing.{first_found, of_multis}
+use Rattle.cg_model_faults.specs.Refusing.{first_found, of_multis}
 use Rattle.cg_refuse.proofs.fold.by_multis.Given as goal
 
 abbrev pub invariant-loop-multi : goal.invariant-loop-multi

@@ -1,5 +1,5 @@
 use Rattle.std.proofs.Common.{◌≡◌, drop}
-use Rattle.cg_model.specs.faults.Refusing.{first_found, of_field_modes}
+use Rattle.cg_model_faults.specs.Refusing.{first_found, of_field_modes}
 use Rattle.cg_refuse.proofs.modes.by_field_modes.Given as goal
 
 abbrev pub invariant-loop-field : goal.invariant-loop-field

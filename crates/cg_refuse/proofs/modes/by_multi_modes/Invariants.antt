@@ -1,5 +1,5 @@
 use Rattle.std.proofs.Common.{◌≡◌, drop}
-use Rattle.cg_model.specs.faults.Refusing.{first_found, of_multi_modes}
+use Rattle.cg_model_faults.specs.Refusing.{first_found, of_multi_modes}
 use Rattle.cg_refuse.proofs.modes.by_multi_modes.Given as goal
 
 abbrev pub invariant-loop-multi : goal.invariant-loop-multi

@@ -1,6 +1,6 @@
 use Rattle.std.proofs.Common.{◌≡◌, drop}
 use Rattle.cg_base.specs.Refusing.{first}
-use Rattle.cg_model.specs.faults.E311.{unfit_from, unfit_constants}
+use Rattle.cg_model_faults.specs.E311.{unfit_from, unfit_constants}
 use Rattle.cg_rules.proofs.constants.first_unfit.Given as goal
 
 -- what is left has the first fault of the whole

@@ -1,6 +1,6 @@
 use Rattle.std.proofs.Common.{◌≡◌, drop}
 use Rattle.cg_base.specs.Refusing.{first}
-use Rattle.cg_model.specs.faults.E312.{undelimited_from, undelimited}
+use Rattle.cg_model_faults.specs.E312.{undelimited_from, undelimited}
 use Rattle.cg_rules.proofs.delimited.first_undelimited.Given as goal
 
 -- what is left has the first fault of the whole

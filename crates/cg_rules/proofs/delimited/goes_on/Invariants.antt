@@ -1,5 +1,5 @@
 use Rattle.std.proofs.Common.{◌≡◌, drop}
-use Rattle.cg_model.specs.faults.E312.{goes_on, may_have}
+use Rattle.cg_model_faults.specs.E312.{goes_on, may_have}
 use Rattle.cg_rules.proofs.delimited.goes_on.Given as goal
 
 -- what is left goes on as the whole does

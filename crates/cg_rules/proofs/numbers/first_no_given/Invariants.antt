@@ -1,6 +1,6 @@
 use Rattle.std.proofs.Common.{◌≡◌, drop}
 use Rattle.cg_base.specs.Refusing.{first}
-use Rattle.cg_model.specs.faults.E306.{no_givens}
+use Rattle.cg_model_faults.specs.E306.{no_givens}
 use Rattle.cg_rules.proofs.numbers.first_no_given.Given as goal
 
 -- what is left has the first fault of the whole

@@ -1,5 +1,5 @@
 use Rattle.std.proofs.Common.{◌≡◌, ◌+◌, ◌≤◌, length, drop}
-use Rattle.cg_model.specs.faults.E313.{slot_operands}
+use Rattle.cg_model_faults.specs.E313.{slot_operands}
 use Rattle.cg_rules.proofs.numbers.slot_count.Given as goal
 
 -- the slots so far, with those that are left, are all

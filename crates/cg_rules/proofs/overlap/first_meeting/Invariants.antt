@@ -1,5 +1,5 @@
 use Rattle.std.proofs.Common.{◌≡◌, drop}
-use Rattle.cg_model.specs.faults.E310.{first_meeting}
+use Rattle.cg_model_faults.specs.E310.{first_meeting}
 use Rattle.cg_rules.proofs.overlap.first_meeting.Given as goal
 
 -- what is left has the first field of the whole

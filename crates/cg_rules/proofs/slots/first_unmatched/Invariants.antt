@@ -1,6 +1,6 @@
 use Rattle.std.proofs.Common.{◌≡◌, take, drop}
 use Rattle.cg_base.specs.Refusing.{first}
-use Rattle.cg_model.specs.faults.E313.{unmatched_from, unmatched}
+use Rattle.cg_model_faults.specs.E313.{unmatched_from, unmatched}
 use Rattle.cg_rules.proofs.slots.first_unmatched.Given as goal
 
 -- what is left has the first fault of the whole

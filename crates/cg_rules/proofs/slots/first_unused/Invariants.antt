@@ -1,6 +1,6 @@
 use Rattle.std.proofs.Common.{◌≡◌, drop}
 use Rattle.cg_base.specs.Refusing.{first}
-use Rattle.cg_model.specs.faults.E313.{unused_from, unused}
+use Rattle.cg_model_faults.specs.E313.{unused_from, unused}
 use Rattle.cg_rules.proofs.slots.first_unused.Given as goal
 
 -- what is left has the first fault of the whole

@@ -1,5 +1,5 @@
 use Rattle.std.proofs.Common.{◌≡◌, drop}
-use Rattle.cg_model.specs.faults.E313.{is_given}
+use Rattle.cg_model_faults.specs.E313.{is_given}
 use Rattle.cg_rules.proofs.slots.is_given.Given as goal
 
 -- it is given in what is left as in the whole

@@ -1,6 +1,7 @@
 use Rattle.std.proofs.Common.{◌≡◌, [], drop}
 use Rattle.std.specs.List.{flat_map}
-use Rattle.cg_model.specs.Spelling.{words_of, keywords}
+use Rattle.cg_model_source.specs.Spelling.{keywords}
+use Rattle.cg_model.specs.Words.{words_of}
 use Rattle.cg_spelling.specs.Lowered.{put_words}
 use Rattle.cg_spelling.proofs.keyword.all_words.Given as goal
 

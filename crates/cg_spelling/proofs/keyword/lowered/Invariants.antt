@@ -1,5 +1,5 @@
 use Rattle.std.proofs.Common.{◌≡◌, ◌++◌, map, drop}
-use Rattle.cg_model.specs.Spelling.{lower}
+use Rattle.cg_model.specs.Words.{lower}
 use Rattle.cg_spelling.proofs.keyword.lowered.Given as goal
 
 -- with what is left it is the whole

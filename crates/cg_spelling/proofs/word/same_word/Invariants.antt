@@ -1,5 +1,5 @@
 use Rattle.std.proofs.Common.{◌≡◌, drop}
-use Rattle.cg_model.specs.Spelling.{same_word}
+use Rattle.cg_model.specs.Words.{same_word}
 use Rattle.cg_spelling.proofs.word.same_word.Given as goal
 
 -- what is left is the same where the whole is

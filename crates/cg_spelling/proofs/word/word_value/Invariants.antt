@@ -1,5 +1,5 @@
 use Rattle.std.proofs.Common.{◌≡◌, drop}
-use Rattle.cg_model.specs.Spelling.{word_value}
+use Rattle.cg_model.specs.Words.{word_value}
 use Rattle.cg_spelling.proofs.word.word_value.Given as goal
 
 -- what is left gives what the whole gives

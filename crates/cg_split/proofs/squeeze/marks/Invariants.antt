@@ -1,5 +1,5 @@
 use Rattle.std.proofs.Common.{◌≡◌, ◌++◌, drop}
-use Rattle.cg_model.specs.Squeezing.{marks}
+use Rattle.cg_model_source.specs.Squeezing.{marks}
 use Rattle.cg_split.proofs.squeeze.marks.Given as goal
 
 -- with the marks of what is left they are those of the whole

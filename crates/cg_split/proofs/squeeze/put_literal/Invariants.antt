@@ -1,5 +1,5 @@
 use Rattle.std.proofs.Common.{◌≡◌, ◌++◌, map, drop}
-use Rattle.cg_model.specs.declared.written.Mark.TheVariants.{Byte}
+use Rattle.cg_model_source.specs.declared.written.Mark.TheVariants.{Byte}
 use Rattle.cg_split.proofs.squeeze.put_literal.Given as goal
 
 -- with what is left they are what is wanted

@@ -1,5 +1,5 @@
 use Rattle.std.proofs.Common.{◌≡◌, ◌++◌, length}
-use Rattle.cg_model.specs.Squeezing.{spaced, words}
+use Rattle.cg_model_source.specs.Squeezing.{spaced, words}
 use Rattle.cg_split.specs.Gaps.{words_behind}
 use Rattle.cg_split.proofs.squeeze.spaced.Given as goal
 

@@ -1,8 +1,8 @@
 use Rattle.std.specs.Prelude.{map}
 use Rattle.std.proofs.Common.{◌+◌, ◌%◌, refl}
 use Rattle.cg_base.specs.Texts.{seen_text}
-use Rattle.cg_model.specs.Bundling.{parts_at}
-use Rattle.cg_model.specs.Spelling.{keywords}
+use Rattle.cg_model_source.specs.Bundling.{parts_at}
+use Rattle.cg_model_source.specs.Spelling.{keywords}
 use Rattle.cg_syntax.proofs.BundleLemmas.{part_more}
 use Rattle.cg_syntax.proofs.bundle.parts_at.Goals as goal
 use Rattle.cg_syntax.specs.Telling.{told_parts}

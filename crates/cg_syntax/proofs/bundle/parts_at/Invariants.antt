@@ -1,7 +1,7 @@
 use Rattle.std.proofs.Common.{map, drop}
 use Rattle.cg_base.specs.Texts.{seen_text}
-use Rattle.cg_model.specs.Bundling.{parts_at}
-use Rattle.cg_model.specs.Spelling.{keywords}
+use Rattle.cg_model_source.specs.Bundling.{parts_at}
+use Rattle.cg_model_source.specs.Spelling.{keywords}
 use Rattle.cg_syntax.proofs.BundleLemmas.{PartsLeft}
 use Rattle.cg_syntax.proofs.bundle.parts_at.Given as goal
 use Rattle.cg_syntax.specs.Telling.{told_parts}

@@ -1,5 +1,5 @@
 use Rattle.std.proofs.Common.{◌≡◌, drop}
-use Rattle.cg_model.specs.Listing.{word_for}
+use Rattle.cg_model_source.specs.Listing.{word_for}
 use Rattle.cg_syntax.proofs.shown.word_for.Given as goal
 
 -- what is left has the first of the whole

@@ -1,8 +1,8 @@
 use Rattle.std.proofs.Common.{ap, ◌∙◌}
 use Rattle.cg_model.specs.Clashing.{decoded_to}
-use Rattle.cg_model.specs.Imaging.{image}
-use Rattle.cg_model.specs.Listing.{listing}
-use Rattle.cg_model.specs.Sourcing.{only_set}
+use Rattle.cg_model_source.specs.Imaging.{image}
+use Rattle.cg_model_source.specs.Listing.{listing}
+use Rattle.cg_model_source.specs.Sourcing.{only_set}
 use Rattle.cg_top.proofs.LineLemmas.{lines_whole}
 use Rattle.cg_top.proofs.laws.printed_listings_give_back.Goals as goal
 

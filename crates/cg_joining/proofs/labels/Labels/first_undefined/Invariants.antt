@@ -1,7 +1,7 @@
 use Rattle.std.proofs.Common.{◌≡◌, drop}
 use Rattle.cg_joining.proofs.labels.Labels.first_undefined.Given as goal
 use Rattle.cg_content.specs.Faulting.{told_first}
-use Rattle.cg_model.specs.source.E604.{undefined_terms}
+use Rattle.cg_model_source.specs.E604.{undefined_terms}
 
 -- what is left has the first of the whole
 abbrev pub invariant-loop-term : goal.invariant-loop-term

@@ -4,7 +4,7 @@ use Rattle.std.proofs.Common.{◌≡◌, ap, ◌∙◌, arith, to_z, of_z}
 use Rattle.std.proofs.lemmas.Int.{ints}
 use Rattle.cg_joining.proofs.LabelLemmas.{term_added}
 use Rattle.cg_joining.proofs.labels.Labels.number_with.Goals as goal
-use Rattle.cg_model.specs.source.E605.{number_with}
+use Rattle.cg_model_source.specs.E605.{number_with}
 
 pub loop-term-preserved : goal.loop-term-preserved
 loop-term-preserved c =

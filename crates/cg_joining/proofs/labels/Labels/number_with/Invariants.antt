@@ -1,8 +1,8 @@
 use Rattle.std.proofs.Common.{◌≡◌, drop}
 use Rattle.cg_joining.proofs.LabelLemmas.{known_address}
 use Rattle.cg_joining.proofs.labels.Labels.number_with.Given as goal
-use Rattle.cg_model.specs.Spelling.{with_addresses}
-use Rattle.cg_model.specs.source.E605.{number_with}
+use Rattle.cg_model_source.specs.Spelling.{with_addresses}
+use Rattle.cg_model_source.specs.E605.{number_with}
 
 -- with the labels that are left it is the number of the whole
 abbrev pub invariant-loop-term : goal.invariant-loop-term

@@ -4,7 +4,7 @@ use Rattle.std.proofs.Common.{◌≡◌, ◌∙◌, arith, to_z, of_z}
 use Rattle.std.proofs.lemmas.Int.{ints}
 use Rattle.cg_joining.proofs.LabelLemmas.{number_more}
 use Rattle.cg_joining.proofs.labels.Labels.numbers_with.Goals as goal
-use Rattle.cg_model.specs.source.E605.{numbers_with}
+use Rattle.cg_model_source.specs.E605.{numbers_with}
 
 pub loop-k-preserved : goal.loop-k-preserved
 loop-k-preserved c =

@@ -1,6 +1,6 @@
 use Rattle.std.proofs.Common.{◌≡◌, ◌++◌, drop}
 use Rattle.cg_joining.proofs.labels.Labels.numbers_with.Given as goal
-use Rattle.cg_model.specs.source.E605.{numbers_with}
+use Rattle.cg_model_source.specs.E605.{numbers_with}
 
 -- with those of the sums that are left they are all
 abbrev pub invariant-loop-k : goal.invariant-loop-k

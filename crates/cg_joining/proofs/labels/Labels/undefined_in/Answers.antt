@@ -4,7 +4,7 @@ use Rattle.std.proofs.Common.{sym, ap, ◌∙◌, arith}
 use Rattle.cg_content.specs.Faulting.{told_first}
 use Rattle.cg_joining.proofs.LabelLemmas.{sum_undefined, sum_defined}
 use Rattle.cg_joining.proofs.labels.Labels.undefined_in.Goals as goal
-use Rattle.cg_model.specs.source.E604.{undefined_sums}
+use Rattle.cg_model_source.specs.E604.{undefined_sums}
 use Rattle.cg_syntax.specs.Faulting.{said_alone}
 
 pub returns-in-Some : goal.returns-in-Some

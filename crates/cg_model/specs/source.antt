@@ -1,9 +1,0 @@
-pub mod E601
-pub mod E602
-pub mod E603
-pub mod E604
-pub mod E605
-pub mod E606
-pub mod E607
-pub mod E608
-pub mod E609
