@@ -11,20 +11,20 @@ use Rattle.std.proofs.Math.Nat.{mod-eq_of_lt}
 use Rattle.cg_model.specs.declared.insn.Insn.{Insn}
 use Rattle.cg_model.specs.declared.machine.Machine.{Machine}
 use Rattle.cg_model.specs.Matching.{length_of, fields_of_parts, part_stands, asserts, IsMatch}
-use Rattle.cg_clash.specs.declared.pairs.Pattern.{Pattern}
-use Rattle.cg_clash.specs.Together.{Fits, Depends, Covers}
-use Rattle.cg_clash.specs.First.{AreSound, Clashes, NoClash, IsFirst}
-use Rattle.cg_view.specs.View.{whole, bytes_of_whole}
+use Rattle.cg_ambig_pattern.specs.declared.pairs.Pattern.{Pattern}
+use Rattle.cg_ambig_pattern.specs.Together.{Fits, Depends, Covers}
+use Rattle.cg_ambig_pattern.specs.First.{AreSound, Clashes, NoClash, IsFirst}
+use Rattle.cg_code_mask.specs.View.{whole, bytes_of_whole}
 use Rattle.cg_model.specs.Clashing.{AreBytes}
 use Rattle.cg_model.specs.Covers.{asked_bits}
-use Rattle.cg_view.specs.Constants.{parts_cover}
-use Rattle.cg_view.proofs.Standing.{parts_inside, parts_to_whole, parts_from_whole}
-use Rattle.cg_view.proofs.Within.{last_within, covered}
-use Rattle.cg_view.proofs.Naming.{placed_among, asked_low}
-use Rattle.cg_view.proofs.Depending.{same_asserted}
+use Rattle.cg_code_mask.specs.Constants.{parts_cover}
+use Rattle.cg_code_mask.proofs.Standing.{parts_inside, parts_to_whole, parts_from_whole}
+use Rattle.cg_code_mask.proofs.Within.{last_within, covered}
+use Rattle.cg_code_mask.proofs.Naming.{placed_among, asked_low}
+use Rattle.cg_code_mask.proofs.Depending.{same_asserted}
 use Rattle.cg_ambig.specs.Patterns.{pattern, asserted_of, asserted, HasPatterns}
 use Rattle.cg_model.specs.Clashing.{length_at, longer, Clashes as ClashOn, NoClash as NoClashing, FirstClash as IsFirstClash}
-use Rattle.cg_view.proofs.Wholes.{are_whole_bytes, length_whole, whole_back, whole_fits, front_bytes, whole_of_front, zeros_behind, number_order}
+use Rattle.cg_code_mask.proofs.Wholes.{are_whole_bytes, length_whole, whole_back, whole_fits, front_bytes, whole_of_front, zeros_behind, number_order}
 
 first_true : (a b : Bool) → (a && b) ≡ true → a ≡ true
 first_true true b e = refl

@@ -3,16 +3,16 @@ use Rattle.std.proofs.Common.{◌≡◌, ℕ, ◌<◌, ◌≤◌, ◌^◌, max, 
 use Rattle.cg_model.specs.declared.insn.Insn.{Insn}
 use Rattle.cg_model.specs.declared.machine.Machine.{Machine}
 use Rattle.cg_model.specs.Matching.{asserts, length_of}
-use Rattle.cg_view.specs.View.{bytes_of_whole}
-use Rattle.cg_view.proofs.Wholes.{length_whole}
+use Rattle.cg_code_mask.specs.View.{bytes_of_whole}
+use Rattle.cg_code_mask.proofs.Wholes.{length_whole}
 use Rattle.cg_model.specs.Covers.{AreInWords}
 use Rattle.cg_ambig.specs.Patterns.{pattern, HasPatterns, asserted_of, asserted}
 use Rattle.cg_ambig.proofs.Sounding.{has_patterns}
 use Rattle.cg_model.specs.Sound.{IsSound, SoundInsn}
-use Rattle.cg_clash.specs.First.{IsFirst}
+use Rattle.cg_ambig_pattern.specs.First.{IsFirst}
 use Rattle.cg_model.specs.Clashing.{length_at, longer, NoClash as NoClashing, FirstClash as IsFirstClash, FirstClashIn as IsClashIn}
-use Rattle.cg_clash.specs.First.{NoClash, AreSound}
-use Rattle.cg_clash.specs.declared.pairs.Pattern.{Pattern}
+use Rattle.cg_ambig_pattern.specs.First.{NoClash, AreSound}
+use Rattle.cg_ambig_pattern.specs.declared.pairs.Pattern.{Pattern}
 use Rattle.cg_ambig.proofs.Bridge.{patterns_sound, first_on_bytes, zeros_after, none_on_bytes}
 
 pub placed_machine : (m : Machine) → HasPatterns m → AreInWords m

@@ -11,10 +11,10 @@ use Rattle.cg_model.specs.declared.rtl.Rtl.{Rtl}
 use Rattle.cg_code.proofs.Ends.{end_of_both}
 use Rattle.cg_model.specs.declared.field.Field.{Field}
 use Rattle.cg_model.specs.Matching.{end_of, last_end, fields_of_part, fields_of_parts}
-use Rattle.cg_view.proofs.Within.{last_within}
+use Rattle.cg_code_mask.proofs.Within.{last_within}
 use Rattle.cg_model.specs.Covers.{IsInWord, IsPlaced, AreInWords, covered_by, covered_by_all, named_bits, asked_bits}
 use Rattle.cg_model.specs.Sound.{IsSound, SoundInsn, AreApart}
-use Rattle.cg_view.specs.Constants.{IsFitting, AreFitting, part_cover, parts_cover}
+use Rattle.cg_code_mask.specs.Constants.{IsFitting, AreFitting, part_cover, parts_cover}
 use Rattle.cg_ambig.specs.Patterns.{HasPatterns}
 
 and_bit : (w c v i : ℕ) → bit_and w c ≡ v → min (bit_at w i) (bit_at c i) ≡ bit_at v i

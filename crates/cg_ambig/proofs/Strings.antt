@@ -6,21 +6,21 @@ use Rattle.std.proofs.lemmas.Nat.Bits.{bit_at_and, bit_at-zero, same_from_bits, 
 use Rattle.std.proofs.lemmas.Grind.{same_number_lists}
 use Rattle.cg_base.specs.declared.mode.Endian.TheVariants.{Big}
 use Rattle.cg_base.specs.Bytes.{number_of}
-use Rattle.cg_clash.specs.declared.pairs.Pattern.{Pattern}
-use Rattle.cg_clash.specs.First.{AreSound}
-use Rattle.cg_clash.specs.Together.{Fits, Both, Covers, contradictions, constants}
-use Rattle.cg_clash.proofs.Counting.{few_open}
-use Rattle.cg_clash.proofs.Together.{Cut, cut_of, both_of, agreeing}
+use Rattle.cg_ambig_pattern.specs.declared.pairs.Pattern.{Pattern}
+use Rattle.cg_ambig_pattern.specs.First.{AreSound}
+use Rattle.cg_ambig_pattern.specs.Together.{Fits, Both, Covers, contradictions, constants}
+use Rattle.cg_ambig_pattern.proofs.Counting.{few_open}
+use Rattle.cg_ambig_pattern.proofs.Together.{Cut, cut_of, both_of, agreeing}
 use Rattle.cg_model.specs.Clashing.{AreBytes, longer, Clashes, FirstClash}
 use Rattle.cg_model.specs.Covers.{asked_bits}
 use Rattle.cg_model.specs.Sound.{IsSound}
 use Rattle.cg_model.specs.declared.machine.Machine.{Machine}
 use Rattle.cg_model.specs.Matching.{length_of}
-use Rattle.cg_view.specs.Constants.{parts_cover}
-use Rattle.cg_view.specs.View.{whole, bytes_of_whole}
-use Rattle.cg_view.proofs.Naming.{asked_low}
-use Rattle.cg_view.proofs.Within.{covered, both_low}
-use Rattle.cg_view.proofs.Wholes.{are_whole_bytes, length_whole, whole_fits, front_bytes, whole_of_front, whole_of_number, number_order, whole_bit, low_bit}
+use Rattle.cg_code_mask.specs.Constants.{parts_cover}
+use Rattle.cg_code_mask.specs.View.{whole, bytes_of_whole}
+use Rattle.cg_code_mask.proofs.Naming.{asked_low}
+use Rattle.cg_code_mask.proofs.Within.{covered, both_low}
+use Rattle.cg_code_mask.proofs.Wholes.{are_whole_bytes, length_whole, whole_fits, front_bytes, whole_of_front, whole_of_number, number_order, whole_bit, low_bit}
 use Rattle.cg_ambig.specs.Patterns.{pattern, asserted, HasPatterns}
 use Rattle.cg_ambig.specs.Strings.{ClashesOnString, SameOnStrings}
 use Rattle.cg_ambig.proofs.Bridge.{Two, two_of, to_whole, match_of_fits, pattern_at, length_is, longer_few, low_part, high_part, patterns_sound}

@@ -5,10 +5,10 @@ use Rattle.cg_model.specs.declared.machine.Machine.{Machine}
 use Rattle.cg_model.specs.Matching.{asserts, fields_of_parts, length_of}
 use Rattle.cg_model.specs.Sound.{is_allowed, of_format}
 use Rattle.cg_model.specs.declared.rtl.Rtl.{Rtl}
-use Rattle.cg_clash.specs.declared.pairs.Pattern.{Pattern}
+use Rattle.cg_ambig_pattern.specs.declared.pairs.Pattern.{Pattern}
 use Rattle.cg_model.specs.Covers.{AreInWords, asked_bits}
-use Rattle.cg_view.specs.View.{bytes_of_whole}
-use Rattle.cg_view.specs.Constants.{parts_cover, parts_value, AreFitting}
+use Rattle.cg_code_mask.specs.View.{bytes_of_whole}
+use Rattle.cg_code_mask.specs.Constants.{parts_cover, parts_value, AreFitting}
 
 abbrev pub pattern : Machine → Insn → Pattern
 pattern m i = record { decodable = i.decodable; cover = parts_cover m i.parts; value = parts_value m i.parts; named = asked_bits m i }

@@ -7,9 +7,9 @@ use Rattle.cg_base.specs.Bytes.{number_of}
 use Rattle.cg_model.specs.declared.insn.Insn.{Insn}
 use Rattle.cg_model.specs.declared.machine.Machine.{Machine}
 use Rattle.cg_model.specs.Clashing.{longer, Clashes, NoClash, FirstClash}
-use Rattle.cg_clash.specs.Settings.{IsPart}
-use Rattle.cg_clash.specs.Together.{contradictions, constants, open_bits}
-use Rattle.cg_view.specs.View.{bytes_of_whole}
+use Rattle.cg_ambig_pattern.specs.Settings.{IsPart}
+use Rattle.cg_ambig_pattern.specs.Together.{contradictions, constants, open_bits}
+use Rattle.cg_code_mask.specs.View.{bytes_of_whole}
 use Rattle.cg_ambig.specs.Patterns.{pattern}
 
 -- One of the strings of two instructions. Where constants of both contradict each other there is none.

@@ -1,12 +1,12 @@
 ghost use Rattle.std.specs.Prelude.{◌≡◌, ◌≤◌, length, map, slice_get, MatchOption, ⊤};
-ghost use Rattle.cg_clash.specs.First.{IsFirst};
+ghost use Rattle.cg_ambig_pattern.specs.First.{IsFirst};
 ghost use Rattle.cg_ambig.specs.Patterns.{pattern, asserted};
 ghost use Rattle.cg_model.specs.Sound.{IsSound, SoundInsn};
 ghost use Rattle.std.specs.Option.{option_copied};
 ghost use Rattle.cg_model.specs.Clashing.{NoClash, FirstClashIn, length_at};
 
 use crate::patterns::fill;
-use cg_clash::{Judge, Pattern, first_pair};
+use cg_ambig_pattern::{Judge, Pattern, first_pair};
 use cg_code::insn_length;
 use cg_model::{Clash, Insn, Machine};
 

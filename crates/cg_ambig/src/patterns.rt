@@ -1,11 +1,11 @@
 ghost use Rattle.std.specs.Prelude.{◌≡◌, ◌≤◌, length, take, map};
 ghost use Rattle.cg_model.specs.Covers.{AreInWords};
-ghost use Rattle.cg_view.specs.Constants.{AreFitting};
+ghost use Rattle.cg_code_mask.specs.Constants.{AreFitting};
 ghost use Rattle.cg_ambig.specs.Patterns.{pattern, HasPatterns};
 
-use cg_clash::Pattern;
+use cg_ambig_pattern::Pattern;
 use cg_model::{Insn, Machine};
-use cg_view::{constants_of, named};
+use cg_code_mask::{constants_of, named};
 
 /// What an instruction says of all bits.
 pub fn pattern_of(machine: &Machine, insn: &Insn) -> Pattern

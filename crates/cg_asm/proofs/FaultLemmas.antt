@@ -2,12 +2,12 @@
 use Rattle.std.specs.Prelude.{ℕ, ◌+◌, Bool, true, false, ◌||◌, nat_lt, if◌then◌else◌, is_some, List, [], ◌∷◌, ◌++◌, ℤ, Option, Some, None}
 use Rattle.std.specs.Option.{option_or, option_map}
 use Rattle.std.proofs.Common.{◌≡◌, refl, sym, ap, ◌∙◌, append_assoc}
-use Rattle.cg_content.proofs.ContentLemmas.{IsProper, IsOwn, own_words}
-use Rattle.cg_content.proofs.DataLemmas.{unfit_told, map_or}
+use Rattle.cg_asm_directives.proofs.ContentLemmas.{IsProper, IsOwn, own_words}
+use Rattle.cg_asm_directives.proofs.DataLemmas.{unfit_told, map_or}
 use Rattle.cg_asm.specs.Faulting.{unfit_known, first_unfit, unfit_data, text_fault, origin_fault, form_fault, content_fault}
-use Rattle.cg_content.specs.Faulting.{told_first, unfit_refusal}
-use Rattle.cg_content.specs.Telling.{told_order, width_for, width_bytes, told_content}
-use Rattle.cg_content.specs.declared.order.Width.{Width}
+use Rattle.cg_asm_directives.specs.Faulting.{told_first, unfit_refusal}
+use Rattle.cg_asm_directives.specs.Telling.{told_order, width_for, width_bytes, told_content}
+use Rattle.cg_asm_directives.specs.declared.order.Width.{Width}
 use Rattle.cg_base.specs.Numerals.{hex_text}
 use Rattle.cg_base.specs.declared.refusal.Refusal.{Refusal}
 use Rattle.cg_model_source.specs.Bundling.{BundlePart}
@@ -24,7 +24,7 @@ use Rattle.cg_model_source.specs.E606.{below_address}
 use Rattle.cg_model_source.specs.E607.{too_large}
 use Rattle.cg_model_source.specs.E608.{malformed_content, empty_parts}
 use Rattle.cg_model_source.specs.E609.{too_wide_content, too_wide}
-use Rattle.cg_spelling.specs.Lowered.{SameKeywords}
+use Rattle.cg_syntax_spelling.specs.Lowered.{SameKeywords}
 use Rattle.cg_syntax.proofs.FaultLemmas.{first_of_both, refused_told, empty_told, wide_told, or_again}
 use Rattle.cg_syntax.specs.Faulting.{said_alone, where_empty}
 use Rattle.cg_syntax.specs.Telling.{told_parts, first_refused}

@@ -4,19 +4,19 @@ use Rattle.std.specs.Option.{option_or, option_map}
 use Rattle.std.specs.Result.{result_ok, result_err}
 use Rattle.std.proofs.Common.{◌≡◌, refl, sym, ap, ◌∙◌, subst, append_assoc}
 use Rattle.std.proofs.lemmas.List.{append-nil}
-use Rattle.cg_content.proofs.ContentLemmas.{own_content, same_machine}
-use Rattle.cg_joining.proofs.LineLemmas.{Stands, stands_at, content_undefined, content_unfit, content_put}
-use Rattle.cg_content.specs.Faulting.{told_first}
-use Rattle.cg_joining.specs.Joining.{undefined_in, unfit_content, content_bytes, ContentWithin, AllWithin, unless_refused, line_put, then_put, lines_put}
+use Rattle.cg_asm_directives.proofs.ContentLemmas.{own_content, same_machine}
+use Rattle.cg_asm_labels.proofs.LineLemmas.{Stands, stands_at, content_undefined, content_unfit, content_put}
+use Rattle.cg_asm_directives.specs.Faulting.{told_first}
+use Rattle.cg_asm_labels.specs.Joining.{undefined_in, unfit_content, content_bytes, ContentWithin, AllWithin, unless_refused, line_put, then_put, lines_put}
 use Rattle.cg_asm.specs.Placing.{place_of, laid_line, placed, line_behind, unless_at_fault, line_laid, then_laid, lines_laid, no_lines, layout_bytes, told_refusal, image_refusal, told_image, seen_refusal}
-use Rattle.cg_content.specs.Telling.{told_content, place_in}
-use Rattle.cg_joining.specs.declared.joining.Laid as declared_laid
+use Rattle.cg_asm_directives.specs.Telling.{told_content, place_in}
+use Rattle.cg_asm_labels.specs.declared.joining.Laid as declared_laid
 use Rattle.cg_asm.specs.declared.placing.Layout.{Layout}
 use Rattle.cg_base.specs.Refusing.{first}
 use Rattle.cg_base.specs.declared.refusal.Refusal.{Refusal}
-use Rattle.cg_choosing.proofs.FrontLemmas.{same_some, none_is_none}
-use Rattle.cg_choosing.specs.Indexing.{GivesAll}
-use Rattle.cg_choosing.specs.Trying.{fault_refusal}
+use Rattle.cg_syntax_choose.proofs.FrontLemmas.{same_some, none_is_none}
+use Rattle.cg_syntax_choose.specs.Indexing.{GivesAll}
+use Rattle.cg_syntax_choose.specs.Trying.{fault_refusal}
 use Rattle.cg_model_source.specs.Bundling.{parts_at}
 use Rattle.cg_model_source.specs.Choosing.{SourceFault}
 use Rattle.cg_model_source.specs.Imaging as imaging

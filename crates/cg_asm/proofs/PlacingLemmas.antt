@@ -4,22 +4,22 @@ use Rattle.std.specs.Option.{option_or, option_map}
 use Rattle.std.proofs.Common.{◌≡◌, refl, sym, ap, ◌∙◌, arith}
 use Rattle.std.proofs.lemmas.Bool.Decides.{nat_tests}
 use Rattle.std.proofs.Math.Nat.{pow-le-pow_right}
-use Rattle.cg_content.proofs.ContentLemmas.{own_content, at_place, told_content_size}
+use Rattle.cg_asm_directives.proofs.ContentLemmas.{own_content, at_place, told_content_size}
 use Rattle.cg_asm.proofs.FaultLemmas.{reading_told}
 use Rattle.cg_asm.specs.Faulting.{text_fault, origin_fault, content_fault}
-use Rattle.cg_content.specs.Faulting.{told_first, on_line}
-use Rattle.cg_joining.specs.Labelling.{IsNew}
+use Rattle.cg_asm_directives.specs.Faulting.{told_first, on_line}
+use Rattle.cg_asm_labels.specs.Labelling.{IsNew}
 use Rattle.cg_asm.specs.Placing.{place_of, laid_line, placed, line_behind, unless_at_fault, read_laid, line_laid, then_laid, lines_laid}
-use Rattle.cg_content.specs.Telling.{content_at, content_size}
-use Rattle.cg_content.specs.declared.content.Content as declared
-use Rattle.cg_joining.specs.declared.joining.Laid.{Laid}
+use Rattle.cg_asm_directives.specs.Telling.{content_at, content_size}
+use Rattle.cg_asm_directives.specs.declared.content.Content as declared
+use Rattle.cg_asm_labels.specs.declared.joining.Laid.{Laid}
 use Rattle.cg_asm.specs.declared.placing.Layout.{Layout}
 use Rattle.cg_base.specs.Refusing.{first}
 use Rattle.cg_base.specs.declared.refusal.Refusal.{Refusal}
-use Rattle.cg_choosing.proofs.FrontLemmas.{none_is_none}
-use Rattle.cg_choosing.specs.Indexing.{IsIndex, GivesAll}
-use Rattle.cg_choosing.specs.declared.index.Index.{Index}
-use Rattle.cg_choosing.specs.Trying.{fault_refusal}
+use Rattle.cg_syntax_choose.proofs.FrontLemmas.{none_is_none}
+use Rattle.cg_syntax_choose.specs.Indexing.{IsIndex, GivesAll}
+use Rattle.cg_syntax_choose.specs.declared.index.Index.{Index}
+use Rattle.cg_syntax_choose.specs.Trying.{fault_refusal}
 use Rattle.cg_model_source.specs.Choosing.{alone}
 use Rattle.cg_model_source.specs.Imaging.{reading_faults}
 use Rattle.cg_model_source.specs.Lining.{Line, Statement, is_readable, read_line}

@@ -1,12 +1,12 @@
 -- What is wrong with a line, as refusals of no file and no line.
 use Rattle.std.specs.Prelude.{ℕ, nat_lt, if◌then◌else◌, List, [], ◌∷◌, ℤ, Option, Some, None}
 use Rattle.std.specs.Option.{option_or, option_map}
-use Rattle.cg_content.specs.Faulting.{told_first, unfit_in, unfit_refusal}
-use Rattle.cg_content.specs.declared.content.Content.{Content}
-use Rattle.cg_content.specs.declared.content.Content.TheVariants.{Directive, Bundle}
-use Rattle.cg_content.specs.declared.order.Order.{Order}
-use Rattle.cg_content.specs.declared.order.Order.TheVariants.{Data, Origin, Malformed}
-use Rattle.cg_content.specs.declared.order.Width.{Width}
+use Rattle.cg_asm_directives.specs.Faulting.{told_first, unfit_in, unfit_refusal}
+use Rattle.cg_asm_directives.specs.declared.content.Content.{Content}
+use Rattle.cg_asm_directives.specs.declared.content.Content.TheVariants.{Directive, Bundle}
+use Rattle.cg_asm_directives.specs.declared.order.Order.{Order}
+use Rattle.cg_asm_directives.specs.declared.order.Order.TheVariants.{Data, Origin, Malformed}
+use Rattle.cg_asm_directives.specs.declared.order.Width.{Width}
 use Rattle.cg_base.specs.Numerals.{hex_text}
 use Rattle.cg_base.specs.declared.refusal.Refusal.{Refusal}
 use Rattle.cg_model_source.specs.Choosing.{known}

@@ -1,16 +1,16 @@
 -- Lines in their places, one by one, in a source of one instruction set.
 use Rattle.std.specs.Prelude.{ℕ, suc, ◌+◌, List, [], ◌∷◌, ◌++◌, Option, Some, None, Result, Ok, Err}
-use Rattle.cg_content.specs.Faulting.{told_first, on_line}
-use Rattle.cg_joining.specs.Joining.{lines_put}
-use Rattle.cg_content.specs.Telling.{told_content, place_in}
-use Rattle.cg_content.specs.declared.content.Content.{Content}
-use Rattle.cg_joining.specs.declared.joining.Laid.{Laid}
+use Rattle.cg_asm_directives.specs.Faulting.{told_first, on_line}
+use Rattle.cg_asm_labels.specs.Joining.{lines_put}
+use Rattle.cg_asm_directives.specs.Telling.{told_content, place_in}
+use Rattle.cg_asm_directives.specs.declared.content.Content.{Content}
+use Rattle.cg_asm_labels.specs.declared.joining.Laid.{Laid}
 use Rattle.cg_asm.specs.declared.placing.Layout.{Layout}
 use Rattle.cg_asm.specs.declared.assembling.AsmStop.{AsmStop}
 use Rattle.cg_asm.specs.declared.assembling.AsmStop.TheVariants as stop
 use Rattle.cg_asm.specs.declared.assembling.SourceRefusal as declared
 use Rattle.cg_base.specs.declared.refusal.Refusal.{Refusal}
-use Rattle.cg_choosing.specs.Trying.{fault_refusal}
+use Rattle.cg_syntax_choose.specs.Trying.{fault_refusal}
 use Rattle.cg_model_source.specs.Imaging.{SourceRefusal, reading_faults, line_fault}
 use Rattle.cg_model_source.specs.Lining.{Line}
 use Rattle.cg_model_source.specs.Sourcing.{Place, Reading, reading, reading_of, only_set, labels_with, line_size}

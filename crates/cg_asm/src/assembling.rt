@@ -3,7 +3,7 @@
 ghost use Rattle.std.specs.Prelude.{◌≡◌, Ok, Err};
 ghost use Rattle.cg_asm.specs.Placing.{AnswersSource, seen_refusal, told_image, told_refusal};
 ghost use Rattle.cg_base.specs.Answering.{Answered};
-ghost use Rattle.cg_choosing.specs.Indexing.{IsIndex, GivesAll};
+ghost use Rattle.cg_syntax_choose.specs.Indexing.{IsIndex, GivesAll};
 ghost use Rattle.cg_model_source.specs.Imaging.{image};
 ghost use Rattle.cg_model.specs.Sound.{IsSound};
 ghost use Rattle.cg_model_source.specs.Sourcing.{only_set};
@@ -12,9 +12,9 @@ ghost use Rattle.cg_syntax.specs.Laying.{HasBundleBit};
 use crate::faults::size_fault;
 use crate::placing::lines_laid;
 use cg_base::{Refusal, Stop, Text};
-use cg_choosing::Index;
-use cg_joining::lines_put;
-use cg_lines::line_texts;
+use cg_syntax_choose::Index;
+use cg_asm_labels::lines_put;
+use cg_syntax_lines::line_texts;
 use cg_model::Machine;
 use std::alloc::Global;
 

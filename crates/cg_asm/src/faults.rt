@@ -3,7 +3,7 @@
 ghost use Rattle.std.specs.Prelude.{◌≡◌, ◌≤◌, IfOk};
 ghost use Rattle.std.specs.Option.{option_map, option_or};
 ghost use Rattle.cg_asm.specs.Faulting as spec;
-ghost use Rattle.cg_content.specs.Faulting.{told_first};
+ghost use Rattle.cg_asm_directives.specs.Faulting.{told_first};
 ghost use Rattle.cg_base.specs.Texts.{seen_text};
 ghost use Rattle.cg_model_source.specs.Choosing.{known};
 ghost use Rattle.cg_model_source.specs.E603.{taken_label};
@@ -12,11 +12,11 @@ ghost use Rattle.cg_syntax.specs.Faulting as telling;
 ghost use Rattle.cg_syntax.specs.Telling.{first_refused};
 
 use cg_base::{NoMemory, Refusal, Text, decimal, hex};
-use cg_content::{Content, Order, Width, unfit_in, unfit_refusal};
-use cg_joining::Labels;
+use cg_asm_directives::{Content, Order, Width, unfit_in, unfit_refusal};
+use cg_asm_labels::Labels;
 use cg_model::Machine;
 use cg_model_source::Sum;
-use cg_spelling::Keywords;
+use cg_syntax_spelling::Keywords;
 use cg_syntax::{Part, first_refused, has_empty, said_alone};
 use std::alloc::Global;
 

@@ -14,8 +14,8 @@ use Rattle.cg_model.specs.declared.rtl.Op.TheVariants as op
 use Rattle.cg_model.specs.declared.rtl.Rtl.{Rtl, roll-Rtl, Rtl-F, map-Rtl, ind-Rtl}
 use Rattle.cg_model.specs.Matching.{end_of, last_end, length_of, fields_of_parts}
 use Rattle.cg_model.specs.Sound.{Allowed, is_allowed, is_among, names_among, of_value, of_fields, of_format, is_plain, IsSound, SoundField, SoundMulti, SoundInsn, IsRule}
-use Rattle.cg_pure.specs.Evaluable.{is_held, all_held}
-use Rattle.cg_pure.proofs.Held.{Implies, wider, lt_true, le_true}
+use Rattle.cg_model_pure.specs.Evaluable.{is_held, all_held}
+use Rattle.cg_model_pure.proofs.Held.{Implies, wider, lt_true, le_true}
 use Rattle.cg_code.proofs.Around.{first_true, second_true, allowed_out}
 use Rattle.cg_code.proofs.Matched.{ends_inside}
 

@@ -10,7 +10,7 @@ use Rattle.cg_model.specs.Matching.{length_of, part_stands, asserts, matches, la
 use Rattle.cg_model.specs.Sound.{IsSound, SoundInsn}
 use Rattle.std.proofs.lemmas.Option.{slice_get-get_or}
 use Rattle.cg_code.proofs.Soundness.{placed}
-use Rattle.cg_view.proofs.Within.{last_within}
+use Rattle.cg_code_mask.proofs.Within.{last_within}
 
 pub too_short : (m : Machine) (i : Insn) (bytes : List ℕ) → length bytes < length_of m i → false ≡ matches m i bytes
 too_short m i bytes h = let short : nat_le (length_of m i) (length bytes) ≡ false = grind (arith, nat_tests) in sym (rw short refl)

@@ -5,7 +5,7 @@ use Rattle.std.proofs.Math.Nat.{mod-eq_of_lt, pow-le-pow_right}
 use Rattle.cg_model.specs.declared.field.Field.{Field}
 use Rattle.cg_model.specs.Covers.{IsInWord}
 use Rattle.cg_model.specs.Encoding.{word_with}
-use Rattle.cg_view.proofs.WordBits.{bytes_power}
+use Rattle.cg_code_mask.proofs.WordBits.{bytes_power}
 
 -- a word has 64 bits at most
 word_fits : (f : Field) (w : ℕ) → IsInWord f → w < 256 ^ (f.word_bits / 8) → w < 2 ^ f.word_bits

@@ -14,7 +14,7 @@ ghost use Rattle.cg_model.specs.Sound.{IsSound, SoundField, SoundMulti, SoundOpe
 use crate::lookups::{field_at, multi_at, operand_at};
 use cg_base::{Mode, bits, convert};
 use cg_model::{Hardware, HwKind, Insn, Machine, Multi, Operand, Part, Source, Values, field_bits};
-use cg_pure::{decoded, pure_eval};
+use cg_model_pure::{decoded, pure_eval};
 
 /// A pc modulo 2^bits of the cpu's word.
 #[tactic(auto, using(crate::proofs::Extracted::word))]

@@ -7,7 +7,7 @@ ghost use Rattle.cg_model.specs.Sound.{IsSound, SoundInsn};
 use crate::lengths::insn_length;
 use crate::lookups::{field_at, insn_at};
 use cg_model::{Insn, Machine, Part, field_bits};
-use cg_pure::pure_eval;
+use cg_model_pure::pure_eval;
 
 /// Whether a constant stands in its field.
 #[tactic(auto, using(crate::proofs::Ends::inside))]

@@ -8,23 +8,23 @@ use Rattle.cg_base.specs.declared.refusal.Stop.{Stop}
 use Rattle.cg_base.specs.declared.refusal.Stop.TheVariants.{NoMemory}
 use Rattle.cg_attrs.specs.declared.frame.ArchForm.{ArchForm}
 use Rattle.cg_attrs.specs.declared.frame.MachForm.{MachForm}
-use Rattle.cg_element.specs.declared.element.Element.{Element}
-use Rattle.cg_element.specs.E318.{selected_mach, selected_arch, selected_isa}
-use Rattle.cg_element.specs.Reading.{first_refusal, element_at}
+use Rattle.cg_desc_elements.specs.declared.element.Element.{Element}
+use Rattle.cg_desc_elements.specs.E318.{selected_mach, selected_arch, selected_isa}
+use Rattle.cg_desc_elements.specs.Reading.{first_refusal, element_at}
 use Rattle.cg_model.specs.Clashing.{NoClash, FirstClashIn}
 use Rattle.cg_model.specs.Formed.{IsFormed}
 use Rattle.cg_model_faults.specs.Accepted.{IsAccepted}
 use Rattle.cg_model_faults.specs.Refusing as refusing
 use Rattle.cg_model.specs.declared.machine.Machine.{Machine}
-use Rattle.cg_names.specs.declared.scope.Scope.{Scope}
-use Rattle.cg_known.specs.Table.{Table, table_of}
-use Rattle.cg_lawful.specs.InHand.{IsChosen}
-use Rattle.cg_data.specs.Selecting.{Selection, selection}
-use Rattle.cg_described.specs.Described.{Described, described, scope_of, whole_scope}
-use Rattle.cg_described.specs.Seen.{forms_of}
-use Rattle.cg_selected.specs.Seen.{base}
-use Rattle.cg_selected.specs.Machines.{machine_of}
-use Rattle.cg_faults.specs.Least.{by_elements}
+use Rattle.cg_rtl_resolve.specs.declared.scope.Scope.{Scope}
+use Rattle.cg_desc_names.specs.Table.{Table, table_of}
+use Rattle.cg_desc_laws.specs.InHand.{IsChosen}
+use Rattle.cg_desc_data.specs.Selecting.{Selection, selection}
+use Rattle.cg_desc_scope.specs.Described.{Described, described, scope_of, whole_scope}
+use Rattle.cg_desc_scope.specs.Seen.{forms_of}
+use Rattle.cg_desc_machine.specs.Seen.{base}
+use Rattle.cg_desc_machine.specs.Machines.{machine_of}
+use Rattle.cg_desc_fault_least.specs.Least.{by_elements}
 use Rattle.cg_desc.specs.Answering.{Refuses, by_element, by_clash, IsFaultless, Describes, clash_of, GivesOf, GivesSelection, GivesAt, GivesSelected, GivesElements, GivesDescription}
 
 pub element_refuses : (d : Described) (scope : Scope) (m : Machine) (tops : List Top) (r : Refusal) → by_elements d scope m tops ≡ Some r → Refuses d scope m tops r

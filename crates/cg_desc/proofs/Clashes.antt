@@ -11,7 +11,7 @@ use Rattle.cg_model.specs.Clashing.{AreBytes, longer, Clashes, NoClash, FirstCla
 use Rattle.cg_model.specs.Matching.{matches, IsMatch}
 use Rattle.cg_model.specs.declared.insn.Insn.{Insn}
 use Rattle.cg_model.specs.declared.machine.Machine.{Machine}
-use Rattle.cg_view.proofs.Masks.{are_bytes}
+use Rattle.cg_code_mask.proofs.Masks.{are_bytes}
 
 -- bytes of one length that are one number are the same
 same_bytes : (xs ys : List ℕ) → AreBytes xs → AreBytes ys → length xs ≡ length ys → big_from 0 (length xs) xs ≡ big_from 0 (length ys) ys → xs ≡ ys

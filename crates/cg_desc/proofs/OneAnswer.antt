@@ -7,19 +7,19 @@ use Rattle.cg_base.specs.Refusing.{refusal_at}
 use Rattle.cg_base.specs.declared.form.Top.{Top}
 use Rattle.cg_base.specs.declared.refusal.Refusal.{Refusal}
 use Rattle.cg_attrs.specs.declared.frame.MachForm.{MachForm}
-use Rattle.cg_data.specs.Selecting.{Selection, selected}
-use Rattle.cg_described.specs.Described.{Described, described, whole_scope}
-use Rattle.cg_described.specs.Seen.{forms_of}
+use Rattle.cg_desc_data.specs.Selecting.{Selection, selected}
+use Rattle.cg_desc_scope.specs.Described.{Described, described, whole_scope}
+use Rattle.cg_desc_scope.specs.Seen.{forms_of}
 use Rattle.cg_desc.specs.Answering.{as_stop, Refuses, by_element, by_clash, IsFaultless, Describes, clash_of, GivesOf, GivesSelection, GivesSelected, GivesMachine, GivesElements, GivesDescription}
 use Rattle.cg_desc.proofs.Clashes.{AreSame, same_first, HasFirst, first_or_none}
-use Rattle.cg_element.specs.declared.element.Element.{Element}
-use Rattle.cg_element.specs.E318.{selected_mach}
-use Rattle.cg_element.specs.Reading.{first_refusal, element_at}
-use Rattle.cg_faults.specs.Least.{by_elements}
+use Rattle.cg_desc_elements.specs.declared.element.Element.{Element}
+use Rattle.cg_desc_elements.specs.E318.{selected_mach}
+use Rattle.cg_desc_elements.specs.Reading.{first_refusal, element_at}
+use Rattle.cg_desc_fault_least.specs.Least.{by_elements}
 use Rattle.cg_model.specs.Clashing.{FirstClash, NoClash}
 use Rattle.cg_model.specs.declared.machine.Machine.{Machine}
-use Rattle.cg_names.specs.declared.scope.Scope.{Scope}
-use Rattle.cg_selected.specs.Machines.{machine_of}
+use Rattle.cg_rtl_resolve.specs.declared.scope.Scope.{Scope}
+use Rattle.cg_desc_machine.specs.Machines.{machine_of}
 
 no_some : {A : Type 0} (x : A) → Some x ≡ None → ⊥
 no_some {A} x e = false≢true (ap none e) where

@@ -9,20 +9,20 @@ use Rattle.cg_base.specs.Answering.{Answered}
 use Rattle.cg_base.specs.Parts.{◌>>=◌}
 use Rattle.cg_base.specs.Refusing.{refusal_at}
 use Rattle.cg_attrs.specs.declared.frame.MachForm.{MachForm}
-use Rattle.cg_element.specs.declared.element.Element.{Element}
-use Rattle.cg_element.specs.E318.{selected_mach}
-use Rattle.cg_element.specs.Reading.{first_refusal, element_at}
+use Rattle.cg_desc_elements.specs.declared.element.Element.{Element}
+use Rattle.cg_desc_elements.specs.E318.{selected_mach}
+use Rattle.cg_desc_elements.specs.Reading.{first_refusal, element_at}
 use Rattle.cg_model.specs.Clashing.{FirstClash, NoClash}
 use Rattle.cg_model.specs.declared.machine.Machine.{Machine}
 use Rattle.cg_model_faults.specs.Refusing.{clash_refusal}
-use Rattle.cg_names.specs.declared.scope.Scope.{Scope}
-use Rattle.cg_choices.specs.declared.written.Written.{Written}
-use Rattle.cg_expanded.specs.Named.{numbered}
-use Rattle.cg_data.specs.Selecting.{Selection, selected}
-use Rattle.cg_described.specs.Described.{Described, described, whole_scope}
-use Rattle.cg_described.specs.Seen.{forms_of}
-use Rattle.cg_selected.specs.Machines.{machine_of}
-use Rattle.cg_faults.specs.Least.{by_elements}
+use Rattle.cg_rtl_resolve.specs.declared.scope.Scope.{Scope}
+use Rattle.cg_desc_choices.specs.declared.written.Written.{Written}
+use Rattle.cg_desc_insns.specs.Named.{numbered}
+use Rattle.cg_desc_data.specs.Selecting.{Selection, selected}
+use Rattle.cg_desc_scope.specs.Described.{Described, described, whole_scope}
+use Rattle.cg_desc_scope.specs.Seen.{forms_of}
+use Rattle.cg_desc_machine.specs.Machines.{machine_of}
+use Rattle.cg_desc_fault_least.specs.Least.{by_elements}
 
 -- E501 stands at the form of the second of two instructions.
 abbrev pub form_top : List Top → Written → Option Top

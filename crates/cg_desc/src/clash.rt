@@ -2,13 +2,13 @@
 
 ghost use Rattle.std.specs.Prelude.{◌≡◌, take, IfOk};
 ghost use Rattle.std.specs.Option.{option_copied};
-ghost use Rattle.cg_described.specs.Seen.{seen_described};
+ghost use Rattle.cg_desc_scope.specs.Seen.{seen_described};
 ghost use Rattle.cg_desc.specs.Answering as spec;
-ghost use Rattle.cg_expanded.specs.Named.{numbered};
+ghost use Rattle.cg_desc_insns.specs.Named.{numbered};
 
-use cg_accept::clash_refusal;
+use cg_desc_check::clash_refusal;
 use cg_base::{NoMemory, Refusal, Top};
-use cg_described::Described;
+use cg_desc_scope::Described;
 use cg_model::{Clash, Machine};
 use std::alloc::Global;
 

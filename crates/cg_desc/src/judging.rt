@@ -3,30 +3,30 @@
 ghost use Rattle.std.specs.Prelude.{◌≡◌, None, ⊤};
 ghost use Rattle.std.specs.List.{filter_map};
 ghost use Rattle.cg_base.specs.Answering.{Answered};
-ghost use Rattle.cg_lawful.specs.InHand.{IsChosen};
-ghost use Rattle.cg_data.specs.Seen.{seen};
-ghost use Rattle.cg_described.specs.Described as description;
-ghost use Rattle.cg_described.specs.Seen.{forms_of, seen_described};
-ghost use Rattle.cg_element.specs.Reading as reading;
+ghost use Rattle.cg_desc_laws.specs.InHand.{IsChosen};
+ghost use Rattle.cg_desc_data.specs.Seen.{seen};
+ghost use Rattle.cg_desc_scope.specs.Described as description;
+ghost use Rattle.cg_desc_scope.specs.Seen.{forms_of, seen_described};
+ghost use Rattle.cg_desc_elements.specs.Reading as reading;
 ghost use Rattle.cg_desc.specs.Answering as spec;
 ghost use Rattle.cg_model.specs.Formed.{IsFormed};
 ghost use Rattle.cg_model_faults.specs.Accepted.{IsAccepted};
 ghost use Rattle.cg_model_faults.specs.Refusing as refusing;
-ghost use Rattle.cg_faults.specs.Least.{by_elements};
-ghost use Rattle.cg_selected.specs.Machines.{machine_of};
-ghost use Rattle.cg_selected.specs.Seen.{base};
+ghost use Rattle.cg_desc_fault_least.specs.Least.{by_elements};
+ghost use Rattle.cg_desc_machine.specs.Machines.{machine_of};
+ghost use Rattle.cg_desc_machine.specs.Seen.{base};
 
 use crate::clash::clash_of;
 use cg_ambig::first_clash;
 use cg_base::{Stop, Top};
-use cg_data::Selection;
-use cg_described::{Described, describe, scope_of};
-use cg_faults::first_by_elements;
-use cg_lawful::machine_is_faultless;
+use cg_desc_data::Selection;
+use cg_desc_scope::{Described, describe, scope_of};
+use cg_desc_fault_least::first_by_elements;
+use cg_desc_laws::machine_is_faultless;
 use cg_model::Machine;
-use cg_names::Scope;
-use cg_selected::machine_of;
-use cg_sound::faultless_is_sound;
+use cg_rtl_resolve::Scope;
+use cg_desc_machine::machine_of;
+use cg_model_laws::faultless_is_sound;
 use std::alloc::Global;
 
 /// What is answered of a description of which nothing but a clash may be at fault, and whose machine is

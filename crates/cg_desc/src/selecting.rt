@@ -4,16 +4,16 @@ ghost use Rattle.std.specs.Prelude.{◌≡◌, Some, None, ⊤};
 ghost use Rattle.std.specs.List.{filter_map};
 ghost use Rattle.cg_base.specs.Answering.{Answered};
 ghost use Rattle.cg_desc.specs.Answering as spec;
-ghost use Rattle.cg_element.specs.E318.{selected_mach};
-ghost use Rattle.cg_element.specs.Reading as reading;
+ghost use Rattle.cg_desc_elements.specs.E318.{selected_mach};
+ghost use Rattle.cg_desc_elements.specs.Reading as reading;
 ghost use Rattle.cg_model_faults.specs.Accepted.{IsAccepted};
 
 use crate::judging::selected_machine;
 use cg_attrs::MachForm;
 use cg_base::{Fault, Forms, Stop, Text, Top, stop_at};
-use cg_data::Selection;
-use cg_element::{Element, elements, selected_arch, selected_isa, selected_mach};
-use cg_known::Names;
+use cg_desc_data::Selection;
+use cg_desc_elements::{Element, elements, selected_arch, selected_isa, selected_mach};
+use cg_desc_names::Names;
 use cg_model::Machine;
 use std::alloc::Global;
 

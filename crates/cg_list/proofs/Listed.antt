@@ -2,7 +2,7 @@
 use Rattle.std.proofs.Common.{◌≡◌, ℕ, zero, suc, ◌+◌, ◌-◌, ◌%◌, ◌^◌, ◌<◌, ◌≤◌, List, [], ◌∷◌, ◌++◌, length, drop, get_or, append_assoc, append-nil, Ok, Fits, w8, sym, ap, ◌∙◌, refl, subst, arith}
 use Rattle.std.proofs.Math.Seq.{drop-cons}
 use Rattle.std.proofs.lemmas.List.{drop_all}
-use Rattle.cg_listing.proofs.Assembled.{listing_gives_back}
+use Rattle.cg_list_laws.proofs.Assembled.{listing_gives_back}
 use Rattle.cg_model.specs.Clashing.{decoded_to}
 use Rattle.cg_model.specs.Formed.{IsFormed}
 use Rattle.cg_model_source.specs.Imaging.{image}

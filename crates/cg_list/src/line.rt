@@ -3,7 +3,7 @@
 ghost use Rattle.std.specs.Prelude.{◌≡◌, ℕ, ◌%◌, ◌^◌, ◌≤◌, length, IfOk, Some};
 ghost use Rattle.std.specs.Option.{option_copied, option_map};
 ghost use Rattle.cg_base.specs.Texts.{same_text};
-ghost use Rattle.cg_choosing.specs.Indexing.{IsIndex, GivesAll};
+ghost use Rattle.cg_syntax_choose.specs.Indexing.{IsIndex, GivesAll};
 ghost use Rattle.cg_list.specs.Seen.{seen, seen_line};
 ghost use Rattle.cg_model_source.specs.Listing as spec;
 ghost use Rattle.cg_model.specs.Sound.{IsSound};

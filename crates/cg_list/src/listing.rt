@@ -1,5 +1,5 @@
 ghost use Rattle.std.specs.Prelude.{◌≡◌, ◌+◌, ◌^◌, ◌≤◌, length, IfOk, Ok};
-ghost use Rattle.cg_choosing.specs.Indexing.{IsIndex, GivesAll};
+ghost use Rattle.cg_syntax_choose.specs.Indexing.{IsIndex, GivesAll};
 ghost use Rattle.cg_model.specs.Clashing.{decoded_to};
 ghost use Rattle.cg_model.specs.Formed.{IsFormed};
 ghost use Rattle.cg_model_source.specs.Imaging as spec;

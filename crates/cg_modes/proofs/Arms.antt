@@ -11,7 +11,7 @@ use Rattle.cg_model.specs.declared.rtl.Op.TheVariants.{Arm, Cond, Case, Join}
 use Rattle.cg_model.specs.declared.machine.Machine.{Machine}
 use Rattle.cg_model.specs.declared.rtl.Rtl.{Rtl, out-Rtl}
 use Rattle.cg_model.specs.declared.rtl.Rtl.TheFolds.{fold_out-Rtl}
-use Rattle.cg_leaf.specs.Firm.{firm_place}
+use Rattle.cg_modes_leaf.specs.Firm.{firm_place}
 use Rattle.cg_modes.specs.Arms.{filled, before, arm_turn, walked, valueless, led, chosen, armed}
 use Rattle.cg_modes.proofs.Laws.{verdict_out, said_is, take_map, drop_map, take_min, drop_min, meets_self}
 

@@ -2,10 +2,10 @@
 use Rattle.std.proofs.Common.{◌≡◌, Some, Ok, Err, false, ◌++◌, min, take, unsigned_abs, ℤ, true, add-one, ℕ, zero, suc, ◌+◌, ◌<◌, ◌≤◌, length, drop, get_or, None, arith, List, [], ◌∷◌, map, Option, refl, ap, ◌∙◌, sym, subst}
 use Rattle.std.proofs.lemmas.Grind.{common_steps}
 use Rattle.cg_base.specs.declared.Mode.{Mode}
-use Rattle.cg_leaf.proofs.Scopes.{locals_parallel, locals_sequence}
+use Rattle.cg_modes_leaf.proofs.Scopes.{locals_parallel, locals_sequence}
 use Rattle.cg_model.specs.Checked.{Checked, Locals, checked, checked_step, verdict_of, in_order, and_then, is_place, each_dropped, sequence_mode, local_of, is_loose, choices, plain_choice, choice_turn, meets}
 use Rattle.cg_model.specs.declared.rtl.Op.TheVariants.{Set, Sequence}
-use Rattle.cg_leaf.specs.Scope.{declared_by}
+use Rattle.cg_modes_leaf.specs.Scope.{declared_by}
 use Rattle.cg_modes.specs.Carried.{assigned, assigned_of, either, either_of}
 use Rattle.cg_model.specs.declared.judged.ModeFault.{ModeFault}
 use Rattle.cg_model.specs.declared.machine.Machine.{Machine}

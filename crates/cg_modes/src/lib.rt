@@ -3,6 +3,6 @@
 
 mod modes;
 
-pub use cg_leaf::{leaf, named, verdict};
+pub use cg_modes_leaf::{leaf, named, verdict};
 pub use cg_model::ModeFault;
 pub use modes::{mode_of, mode_within};

@@ -2,19 +2,19 @@ ghost use Rattle.std.specs.Prelude.{◌≡◌, ◌≤◌, ◌<◌, ◌+◌, [], 
 ghost use Rattle.cg_model.specs.declared.rtl.Rtl.{out-Rtl};
 ghost use Rattle.cg_model.specs.Checked as spec;
 ghost use Rattle.cg_model.specs.Checked.{checked, mode_in};
-ghost use Rattle.cg_leaf.specs.Firm.{firm_place};
-ghost use Rattle.cg_leaf.specs.Scope.{locals_of};
+ghost use Rattle.cg_modes_leaf.specs.Firm.{firm_place};
+ghost use Rattle.cg_modes_leaf.specs.Scope.{locals_of};
 ghost use Rattle.cg_modes.specs.Arms as Arms;
 ghost use Rattle.cg_modes.specs.Carried as Carried;
 ghost use Rattle.cg_modes.specs.Carried.{carried, assigned, either};
 
 use cg_base::{Mode, TernaryOp, UnaryOp, bits};
-use cg_leaf::scope::Scope;
-use cg_leaf::verdict::{
+use cg_modes_leaf::scope::Scope;
+use cg_modes_leaf::verdict::{
     Verdict, address, agrees, any_mode, fault, given, is_loose, meets, memory, narrower, no_shape,
     part, parts, same_bits, shifted, stated, valued, wider, without_else, word,
 };
-use cg_leaf::{leaf, named};
+use cg_modes_leaf::{leaf, named};
 use cg_model::{Kind, Machine, ModeFault, Op, Rtl};
 
 /// The mode of an expression that stands alone, of which this mode is wanted or none, or its first
@@ -22,12 +22,12 @@ use cg_model::{Kind, Machine, ModeFault, Op, Rtl};
 /// from left to right, else E406 where the expression is too large, and 304 for what is no
 /// expression of the language. Each expression in it is judged once, no rule is gone through for
 /// more than 4,096 nodes, and no memory is taken.
-#[tactic(auto, using(cg_leaf::proofs::Scopes::scope_rules))]
+#[tactic(auto, using(cg_modes_leaf::proofs::Scopes::scope_rules))]
 pub fn mode_of(machine: &Machine, rtl: &Rtl, want: Option<Mode>) -> Result<Mode, ModeFault>
     ensures { result ≡ spec.mode_of machine.now rtl.now want }
 {
     let mode = judge(rtl, machine, &Scope::Outside, want)?;
-    if cg_leaf::is_small(machine, rtl) {
+    if cg_modes_leaf::is_small(machine, rtl) {
         Ok(mode)
     } else {
         Err(fault(406))
@@ -37,7 +37,7 @@ pub fn mode_of(machine: &Machine, rtl: &Rtl, want: Option<Mode>) -> Result<Mode,
 /// The mode of an expression outside of any `sequence`, or its first fault (docs/LANGUAGE.md,
 /// "Modes"), as `mode_of` gives it but for E406: how large it is, isn't asked. Each expression in
 /// it is judged once.
-#[tactic(auto, using(cg_leaf::proofs::Scopes::scope_rules))]
+#[tactic(auto, using(cg_modes_leaf::proofs::Scopes::scope_rules))]
 pub fn mode_within(machine: &Machine, rtl: &Rtl, want: Option<Mode>) -> Result<Mode, ModeFault>
     ensures { result ≡ mode_in machine.now rtl.now [] want }
 {
@@ -445,7 +445,7 @@ fn delay(rtl: &Rtl, machine: &Machine, scope: &Scope, want: Option<Mode>) -> Ver
         return Err(fault(402));
     }
     let mode = judge(x, machine, scope, None)?;
-    if bits(mode) == 0 && !cg_leaf::delays(x, machine) {
+    if bits(mode) == 0 && !cg_modes_leaf::delays(x, machine) {
         Ok(Mode::Void)
     } else {
         Err(fault(402))

@@ -7,21 +7,21 @@ use Rattle.cg_base.specs.declared.form.Form.TheViews as views
 use Rattle.cg_base.specs.declared.form.Form.TheFolds.{fold-roll-Form}
 use Rattle.cg_base.specs.declared.form.Form.TheVariants as form
 use Rattle.cg_base.specs.Texts.{is_named, same_text}
-use Rattle.cg_builtin.specs.declared.body.Body.{Body}
-use Rattle.cg_builtin.specs.declared.body.Body.TheViews.{outs-Number, outs-Symbol, outs-Str, outs-Flag, outs-Items}
-use Rattle.cg_builtin.specs.declared.body.Body.TheVariants.{Number, Symbol, Str, Flag, Items}
-use Rattle.cg_builtin.specs.declared.body.Macro.{Macro}
-use Rattle.cg_builtin.specs.declared.built_in.BuiltIn.{BuiltIn}
-use Rattle.cg_builtin.specs.declared.built_in.BuiltIn.TheVariants as own
-use Rattle.cg_builtin.proofs.Names.{same_text_sym}
-use Rattle.cg_expander.proofs.Rules.{at_leaf}
-use Rattle.cg_expander.proofs.ExpandRules.{expanded_number, expanded_symbol, expanded_string, expanded_flag}
-use Rattle.cg_builtin.specs.Outcome.{Answer, onward, choose, each}
-use Rattle.cg_builtin.specs.Sizes.{nodes, lists}
+use Rattle.cg_pmacro_builtin.specs.declared.body.Body.{Body}
+use Rattle.cg_pmacro_builtin.specs.declared.body.Body.TheViews.{outs-Number, outs-Symbol, outs-Str, outs-Flag, outs-Items}
+use Rattle.cg_pmacro_builtin.specs.declared.body.Body.TheVariants.{Number, Symbol, Str, Flag, Items}
+use Rattle.cg_pmacro_builtin.specs.declared.body.Macro.{Macro}
+use Rattle.cg_pmacro_builtin.specs.declared.built_in.BuiltIn.{BuiltIn}
+use Rattle.cg_pmacro_builtin.specs.declared.built_in.BuiltIn.TheVariants as own
+use Rattle.cg_pmacro_builtin.proofs.Names.{same_text_sym}
+use Rattle.cg_pmacro_expand.proofs.Rules.{at_leaf}
+use Rattle.cg_pmacro_expand.proofs.ExpandRules.{expanded_number, expanded_symbol, expanded_string, expanded_flag}
+use Rattle.cg_pmacro_builtin.specs.Outcome.{Answer, onward, choose, each}
+use Rattle.cg_pmacro_builtin.specs.Sizes.{nodes, lists}
 use Rattle.cg_base.specs.Parts.{◌>>=◌}
-use Rattle.cg_builtin.specs.Shapes.{plain, plain_step, called, head_name, elements, pmacro_form, pmacro_head, macro_named, begins_with_dot}
-use Rattle.cg_builtin.specs.BuiltIns.{name_of, first_named, built_in, all_built_ins}
-use Rattle.cg_expander.specs.Expansion.{Expander, listed, macro_call, other_list, named_kind, list_kind, layer_kind, kind_of, comes_to, charge, call_written, with_arguments, expanded}
+use Rattle.cg_pmacro_builtin.specs.Shapes.{plain, plain_step, called, head_name, elements, pmacro_form, pmacro_head, macro_named, begins_with_dot}
+use Rattle.cg_pmacro_builtin.specs.BuiltIns.{name_of, first_named, built_in, all_built_ins}
+use Rattle.cg_pmacro_expand.specs.Expansion.{Expander, listed, macro_call, other_list, named_kind, list_kind, layer_kind, kind_of, comes_to, charge, call_written, with_arguments, expanded}
 use Rattle.cg_pmacro.specs.Splitting.{first_name}
 use Rattle.cg_pmacro.specs.Laws.{CallLeaves, AtRest, heads_call, none, number, symbol, string, flag, list}
 

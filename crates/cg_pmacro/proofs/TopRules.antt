@@ -3,21 +3,21 @@ use Rattle.std.proofs.Common.{◌≡◌, ◌≢◌, ℕ, zero, suc, ◌-◌, Lis
 use Rattle.std.proofs.lemmas.Grind.{common_steps}
 use Rattle.cg_base.specs.declared.form.Form.{Form}
 use Rattle.cg_base.specs.Texts.{is_named}
-use Rattle.cg_builtin.specs.declared.body.Body.{Body}
+use Rattle.cg_pmacro_builtin.specs.declared.body.Body.{Body}
 use Rattle.cg_base.specs.declared.form.Top.{Top}
 use Rattle.cg_base.specs.declared.refusal.Stop.{Stop}
 use Rattle.cg_base.specs.declared.refusal.Stop.TheVariants as stops
 use Rattle.cg_base.specs.Answering.{Stops}
-use Rattle.cg_builtin.specs.declared.fault.Halt.{Halt}
-use Rattle.cg_builtin.specs.declared.fault.Halt.TheVariants.{Faulty, NoMemory}
-use Rattle.cg_builtin.specs.Reports.{Halts}
-use Rattle.cg_builtin.specs.Outcome.{Answer, each_joined}
-use Rattle.cg_builtin.specs.Shapes.{elements, head_name}
+use Rattle.cg_pmacro_builtin.specs.declared.fault.Halt.{Halt}
+use Rattle.cg_pmacro_builtin.specs.declared.fault.Halt.TheVariants.{Faulty, NoMemory}
+use Rattle.cg_pmacro_builtin.specs.Reports.{Halts}
+use Rattle.cg_pmacro_builtin.specs.Outcome.{Answer, each_joined}
+use Rattle.cg_pmacro_builtin.specs.Shapes.{elements, head_name}
 use Rattle.cg_pmacro.specs.Splitting.{split_by, split_each, split_to}
 use Rattle.cg_pmacro.specs.Steps.{further_top, further_split, Refuses}
 use Rattle.cg_pmacro.specs.Tops.{State, in_place, no_forms, top_by, top_to}
-use Rattle.cg_builtin.proofs.Fronts.{none_in_front, more_in_front, answer_none_in_front, answer_more_in_front}
-use Rattle.cg_expander.proofs.Rules.{halts_of}
+use Rattle.cg_pmacro_builtin.proofs.Fronts.{none_in_front, more_in_front, answer_none_in_front, answer_more_in_front}
+use Rattle.cg_pmacro_expand.proofs.Rules.{halts_of}
 
 pub top_out : (k : ℕ) (b : Body) (s : State) → top_to k b s ≡ top_by (further_top k) b s
 top_out zero b s = refl

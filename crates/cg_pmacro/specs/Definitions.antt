@@ -1,11 +1,11 @@
 -- The macro that a definition defines (docs/LANGUAGE.md, "Macros").
 use Rattle.std.specs.Prelude.{ℕ, Bool, true, false, ◌&&◌, ◌||◌, List, [], ◌∷◌, drop, Option, Some, None, is_some, unwrap_or, Ok, Err, codes, if◌then◌else◌}
-use Rattle.cg_builtin.specs.declared.body.Body.{Body, out-Body}
-use Rattle.cg_builtin.specs.declared.body.Body.TheOpen as body
-use Rattle.cg_builtin.specs.declared.body.Body.TheOpen.{Body-F}
-use Rattle.cg_builtin.specs.declared.body.Macro.{Macro}
-use Rattle.cg_builtin.specs.Outcome.{Answer, choose}
-use Rattle.cg_builtin.specs.Shapes.{own_symbol, first_symbol, elements, is_list, names_of, macro_named, begins_with_dot}
+use Rattle.cg_pmacro_builtin.specs.declared.body.Body.{Body, out-Body}
+use Rattle.cg_pmacro_builtin.specs.declared.body.Body.TheOpen as body
+use Rattle.cg_pmacro_builtin.specs.declared.body.Body.TheOpen.{Body-F}
+use Rattle.cg_pmacro_builtin.specs.declared.body.Macro.{Macro}
+use Rattle.cg_pmacro_builtin.specs.Outcome.{Answer, choose}
+use Rattle.cg_pmacro_builtin.specs.Shapes.{own_symbol, first_symbol, elements, is_list, names_of, macro_named, begins_with_dot}
 
 abbrev pub string_layer : Body-F Body → Bool
 string_layer (body.Str s) = true

@@ -2,12 +2,12 @@
 use Rattle.std.specs.Prelude.{◌≡◌, ℕ, suc, ◌+◌, Bool, false, ◌||◌, ℤ, List, [], ◌∷◌, None, is_some, Ok}
 use Rattle.cg_base.specs.declared.form.Form.{Form}
 use Rattle.cg_base.specs.declared.form.Form.TheVariants as form
-use Rattle.cg_builtin.specs.declared.body.Body.{Body}
-use Rattle.cg_builtin.specs.declared.body.Macro.{Macro}
-use Rattle.cg_builtin.specs.Outcome.{each, choose}
-use Rattle.cg_builtin.specs.Sizes.{nodes}
-use Rattle.cg_builtin.specs.Shapes.{macro_named, begins_with_dot}
-use Rattle.cg_expander.specs.Expansion.{Expander, call_written, with_arguments, without_arguments}
+use Rattle.cg_pmacro_builtin.specs.declared.body.Body.{Body}
+use Rattle.cg_pmacro_builtin.specs.declared.body.Macro.{Macro}
+use Rattle.cg_pmacro_builtin.specs.Outcome.{each, choose}
+use Rattle.cg_pmacro_builtin.specs.Sizes.{nodes}
+use Rattle.cg_pmacro_builtin.specs.Shapes.{macro_named, begins_with_dot}
+use Rattle.cg_pmacro_expand.specs.Expansion.{Expander, call_written, with_arguments, without_arguments}
 use Rattle.cg_pmacro.specs.Splitting.{first_name}
 
 -- The arguments left some units for the body, and the body left what the call left, one more, and the nodes of its result.

@@ -2,8 +2,8 @@
 use Rattle.std.specs.Prelude.{ℕ, zero, suc, List, [], ◌∷◌, ◌++◌, drop, Option, None, unwrap_or, Ok, Err, codes, if◌then◌else◌}
 use Rattle.cg_base.specs.declared.form.Form.{Form}
 use Rattle.cg_base.specs.Texts.{is_named}
-use Rattle.cg_builtin.specs.Outcome.{Answer, onward, choose}
-use Rattle.cg_builtin.specs.Sizes.{lists}
+use Rattle.cg_pmacro_builtin.specs.Outcome.{Answer, onward, choose}
+use Rattle.cg_pmacro_builtin.specs.Sizes.{lists}
 use Rattle.cg_base.specs.Parts.{symbol_of, elements_of}
 
 -- one answer after the other; a fault ends them

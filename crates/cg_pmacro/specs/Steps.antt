@@ -5,13 +5,13 @@ use Rattle.cg_base.specs.declared.form.Top.{Top}
 use Rattle.cg_base.specs.declared.refusal.Stop.{Stop}
 use Rattle.cg_base.specs.Answering.{Stops}
 use Rattle.cg_base.specs.declared.refusal.Refusal.{Refusal}
-use Rattle.cg_builtin.specs.declared.body.Body.{Body}
-use Rattle.cg_builtin.specs.declared.body.Macro.{Macro}
+use Rattle.cg_pmacro_builtin.specs.declared.body.Body.{Body}
+use Rattle.cg_pmacro_builtin.specs.declared.body.Macro.{Macro}
 use Rattle.cg_base.specs.Refusing.{Fault, refusal_at}
-use Rattle.cg_builtin.specs.declared.fault.Halt.{Halt}
-use Rattle.cg_builtin.specs.declared.fault.Halt.TheVariants.{Faulty, NoMemory}
-use Rattle.cg_builtin.specs.Outcome.{Answer, Run}
-use Rattle.cg_builtin.specs.Reports.{Halts}
+use Rattle.cg_pmacro_builtin.specs.declared.fault.Halt.{Halt}
+use Rattle.cg_pmacro_builtin.specs.declared.fault.Halt.TheVariants.{Faulty, NoMemory}
+use Rattle.cg_pmacro_builtin.specs.Outcome.{Answer, Run}
+use Rattle.cg_pmacro_builtin.specs.Reports.{Halts}
 use Rattle.cg_pmacro.specs.Splitting.{split_to, nothing}
 use Rattle.cg_pmacro.specs.Tops.{State, state, in_place, top_to, no_forms}
 

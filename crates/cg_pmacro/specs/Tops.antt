@@ -5,13 +5,13 @@ use Rattle.cg_base.specs.declared.form.Forms.{Forms}
 use Rattle.cg_base.specs.declared.form.Top.{Top}
 use Rattle.cg_base.specs.declared.refusal.Refusal.{Refusal}
 use Rattle.cg_base.specs.Texts.{is_named}
-use Rattle.cg_builtin.specs.declared.body.Body.{Body}
-use Rattle.cg_builtin.specs.declared.body.Macro.{Macro}
+use Rattle.cg_pmacro_builtin.specs.declared.body.Body.{Body}
+use Rattle.cg_pmacro_builtin.specs.declared.body.Macro.{Macro}
 use Rattle.cg_base.specs.Refusing.{Fault, refusal_at}
-use Rattle.cg_builtin.specs.Outcome.{Answer, Run, onward, pure, fails, each_joined, choose}
-use Rattle.cg_builtin.specs.Sizes.{levels}
-use Rattle.cg_builtin.specs.Shapes.{plain, head_name, elements}
-use Rattle.cg_expander.specs.Expansion.{expanded}
+use Rattle.cg_pmacro_builtin.specs.Outcome.{Answer, Run, onward, pure, fails, each_joined, choose}
+use Rattle.cg_pmacro_builtin.specs.Sizes.{levels}
+use Rattle.cg_pmacro_builtin.specs.Shapes.{plain, head_name, elements}
+use Rattle.cg_pmacro_expand.specs.Expansion.{expanded}
 use Rattle.cg_pmacro.specs.Splitting.{split}
 use Rattle.cg_pmacro.specs.Definitions.{definition}
 

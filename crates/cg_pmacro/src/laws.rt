@@ -1,10 +1,10 @@
 ghost use Rattle.std.specs.Prelude.{◌≡◌, ◌↔◌, ℕ, suc, Bool, true, List as Listed, [], ◌∷◌, Ok};
 ghost use Rattle.cg_base.specs.declared.form.Form.{Form as Shown};
-ghost use Rattle.cg_builtin.specs.declared.body.Body.{Body as Written};
-ghost use Rattle.cg_builtin.specs.declared.body.Body.TheVariants.{Quoted as LeafOf};
-ghost use Rattle.cg_builtin.specs.declared.body.Macro.{Macro as Known};
-ghost use Rattle.cg_builtin.specs.Shapes.{same_form, plain as plain_of};
-ghost use Rattle.cg_expander.specs.Expansion.{expanded, kind_of, macro_call};
+ghost use Rattle.cg_pmacro_builtin.specs.declared.body.Body.{Body as Written};
+ghost use Rattle.cg_pmacro_builtin.specs.declared.body.Body.TheVariants.{Quoted as LeafOf};
+ghost use Rattle.cg_pmacro_builtin.specs.declared.body.Macro.{Macro as Known};
+ghost use Rattle.cg_pmacro_builtin.specs.Shapes.{same_form, plain as plain_of};
+ghost use Rattle.cg_pmacro_expand.specs.Expansion.{expanded, kind_of, macro_call};
 ghost use Rattle.cg_pmacro.specs.Laws.{CallLeaves, AtRest};
 
 /// A law of the definitions: a quoted leaf expands to its content and costs nothing.

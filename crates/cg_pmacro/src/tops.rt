@@ -1,21 +1,21 @@
 ghost use Rattle.std.specs.Prelude.{◌≡◌, ◌++◌, map, drop, OnOk};
 ghost use Rattle.std.specs.Option.{option_copied};
 ghost use Rattle.cg_base.specs.Answering.{Stops, Gives};
-ghost use Rattle.cg_builtin.specs.Outcome.{each_joined};
+ghost use Rattle.cg_pmacro_builtin.specs.Outcome.{each_joined};
 ghost use Rattle.cg_pmacro.specs.Definitions as defining;
 ghost use Rattle.cg_pmacro.specs.Splitting as splitting;
-ghost use Rattle.cg_builtin.specs.Reports.{Comes, IsHalt};
+ghost use Rattle.cg_pmacro_builtin.specs.Reports.{Comes, IsHalt};
 ghost use Rattle.cg_pmacro.specs.Steps.{LeavesTop, AnswersTop, Refuses};
-ghost use Rattle.cg_builtin.specs.Shapes.{plain as plain_of};
+ghost use Rattle.cg_pmacro_builtin.specs.Shapes.{plain as plain_of};
 ghost use Rattle.cg_pmacro.specs.ShortForms as short;
 ghost use Rattle.cg_pmacro.specs.Tops as meant;
 
 use cg_base::{Fault, Form, Forms, List, NoMemory, Stop, Text, Top, stop_at};
-use cg_builtin::{
+use cg_pmacro_builtin::{
     Body, Halt, Macro, Value, begins_with_dot, copy, elements, faulty, form_depth, form_elements,
     form_symbol, head_name, is_list, is_named, levels, macro_named, names_of, own_symbol, plain,
 };
-use cg_expander::expand as expand_form;
+use cg_pmacro_expand::expand as expand_form;
 use std::alloc::Global;
 
 /// What `(include "simplify.inc")` reads: the short forms of definitions

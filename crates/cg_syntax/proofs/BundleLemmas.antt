@@ -8,13 +8,13 @@ use Rattle.std.proofs.lemmas.Option.{slice_get-get_or}
 use Rattle.std.proofs.lemmas.Bool.{both_ways}
 use Rattle.cg_base.proofs.Words.{lowest_of_lowest}
 use Rattle.cg_base.specs.declared.refusal.Refusal.{Refusal}
-use Rattle.cg_choosing.proofs.ChosenLemmas.{chosen_of_machine}
-use Rattle.cg_choosing.proofs.FrontLemmas.{same_some}
-use Rattle.cg_choosing.specs.Indexing.{GivesAll}
-use Rattle.cg_choosing.specs.Trying.{told_choice, told}
-use Rattle.cg_choosing.specs.declared.trying.Choice as declared
+use Rattle.cg_syntax_choose.proofs.ChosenLemmas.{chosen_of_machine}
+use Rattle.cg_syntax_choose.proofs.FrontLemmas.{same_some}
+use Rattle.cg_syntax_choose.specs.Indexing.{GivesAll}
+use Rattle.cg_syntax_choose.specs.Trying.{told_choice, told}
+use Rattle.cg_syntax_choose.specs.declared.trying.Choice as declared
 use Rattle.cg_code.proofs.Extracted.{word_bits_few}
-use Rattle.cg_fitting.proofs.Values.{drop_next}
+use Rattle.cg_syntax_fit.proofs.Values.{drop_next}
 use Rattle.cg_model_source.specs.Bundling as spec
 use Rattle.cg_model_source.specs.Bundling.{chosen_part, part_of, parts_at}
 use Rattle.cg_model_source.specs.Choosing.{Choice, SourceFault, objection, bytes_for, values_for, first_out_of_range, assertion_objection, choice_objection, fits, unchosen, unfit, chosen_of, chosen, splitting, known_all}

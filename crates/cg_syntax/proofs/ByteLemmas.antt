@@ -3,14 +3,14 @@ use Rattle.std.specs.Prelude.{ℕ, zero, suc, nat_lt, ◌+◌, ◌-◌, ◌/◌,
 use Rattle.std.proofs.Common.{◌≡◌, refl, sym, ap, ◌∙◌, subst, get_or, arith}
 use Rattle.std.proofs.lemmas.Bool.Decides.{nat_tests}
 use Rattle.std.proofs.lemmas.List.{take-take, drop-take, length-take-le, length-append}
-use Rattle.cg_fitting.proofs.Values.{drop_next}
+use Rattle.cg_syntax_fit.proofs.Values.{drop_next}
 use Rattle.byteorder.specs.Numbers.{big_from-take, little_from-take, length-bytes_high_first, length-bytes_low_first}
 use Rattle.cg_base.specs.Bytes.{number_of, bytes_of}
 use Rattle.cg_base.specs.declared.mode.Endian.{Endian}
 use Rattle.cg_base.specs.declared.mode.Endian.TheVariants.{Big, Little}
-use Rattle.cg_choosing.proofs.TryingLemmas.{insns_within}
-use Rattle.cg_choosing.specs.Trying.{as_choice}
-use Rattle.cg_choosing.specs.declared.trying.Choice as declared
+use Rattle.cg_syntax_choose.proofs.TryingLemmas.{insns_within}
+use Rattle.cg_syntax_choose.specs.Trying.{as_choice}
+use Rattle.cg_syntax_choose.specs.declared.trying.Choice as declared
 use Rattle.cg_model_source.specs.Bundling.{with_bundle_bit, instruction_bytes}
 use Rattle.cg_model_source.specs.Choosing.{bytes_for, objection}
 use Rattle.cg_model.specs.Covers.{IsInWord, is_near}

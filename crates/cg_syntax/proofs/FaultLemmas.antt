@@ -5,7 +5,7 @@ use Rattle.std.specs.Option.{option_or, option_map}
 use Rattle.std.proofs.Common.{◌≡◌, refl, ap, ◌∙◌}
 use Rattle.cg_base.specs.Refusing.{first}
 use Rattle.cg_base.specs.declared.refusal.Refusal.{Refusal}
-use Rattle.cg_choosing.specs.Trying.{fault_refusal}
+use Rattle.cg_syntax_choose.specs.Trying.{fault_refusal}
 use Rattle.cg_model_source.specs.Bundling.{BundlePart, empty, refused, stands, all_refused_as}
 use Rattle.cg_model_source.specs.Choosing.{SourceFault, alone}
 use Rattle.cg_model_source.specs.Stating.{defined_label, named_labels, all_named_labels, statement_faults}

@@ -3,8 +3,8 @@ use Rattle.std.specs.Prelude.{ℕ, zero, suc, ◌+◌, ◌≤◌, Bool, true, fa
 use Rattle.std.proofs.Common.{◌≡◌, refl, ap, ◌∙◌, subst, arith}
 use Rattle.std.proofs.lemmas.Bool.{both_ways, and_parts}
 use Rattle.std.proofs.lemmas.Bool.Decides.{nat_tests}
-use Rattle.cg_choosing.proofs.FrontLemmas.{same_some, none_is_none}
-use Rattle.cg_choosing.specs.Indexing.{GivesAll}
+use Rattle.cg_syntax_choose.proofs.FrontLemmas.{same_some, none_is_none}
+use Rattle.cg_syntax_choose.specs.Indexing.{GivesAll}
 use Rattle.cg_model.specs.declared.field.Field.{Field}
 use Rattle.cg_model_faults.specs.declared.fault.Said.TheVariants as said
 use Rattle.cg_model.specs.declared.insn.Given.{Given}
@@ -20,7 +20,7 @@ use Rattle.cg_model_faults.specs.E316.{is_bundle_bit, no_bundle_bit}
 use Rattle.cg_model_faults.specs.Elements.{of_bundle, emitted, macro_syntax, of_macro, of_texts}
 use Rattle.cg_model_faults.specs.Finding.{Faults, where_so, where_none, at_place}
 use Rattle.cg_model_faults.specs.Refusing.{first_refusal, by_data, by_modes, of_fields, of_multis, of_all_hardware, of_operands, of_insns, of_macros, spent_on_fields, spent_on_multis, spent_on_hardware}
-use Rattle.cg_sound.proofs.Clear.{Each, each, AllClear, clear, clear_front, all_clear, AreNone, all_none, front_none, back_none, later_none, test_false, not_true}
+use Rattle.cg_model_laws.proofs.Clear.{Each, each, AllClear, clear, clear_front, all_clear, AreNone, all_none, front_none, back_none, later_none, test_false, not_true}
 use Rattle.cg_syntax.specs.Laying.{HasBundleBit}
 
 is_none : {A : Type 0} → List A → Bool

@@ -4,11 +4,11 @@ use Rattle.std.specs.Option.{option_map}
 use Rattle.std.proofs.Common.{◌≡◌, refl, sym, ap, ◌∙◌, get_or, append_assoc, arith}
 use Rattle.std.proofs.lemmas.Bool.{false≢true}
 use Rattle.std.proofs.lemmas.List.{append-nil, drop_all}
-use Rattle.cg_fitting.proofs.Values.{drop_next}
+use Rattle.cg_syntax_fit.proofs.Values.{drop_next}
 use Rattle.cg_code.proofs.Extracted.{few_bits}
-use Rattle.cg_fitting.proofs.Fits.{operands_there}
-use Rattle.cg_fitting.proofs.Slots.{by_number, first_there, gotten, later_there}
-use Rattle.cg_fitting.specs.Slots.{operands_of, AreThere}
+use Rattle.cg_syntax_fit.proofs.Fits.{operands_there}
+use Rattle.cg_syntax_fit.proofs.Slots.{by_number, first_there, gotten, later_there}
+use Rattle.cg_syntax_fit.specs.Slots.{operands_of, AreThere}
 use Rattle.cg_model_source.specs.Listing as spec
 use Rattle.cg_model_source.specs.Listing.{shown_value, shown_before, shown_marks, shown}
 use Rattle.cg_model.specs.Slots.{slots_of}

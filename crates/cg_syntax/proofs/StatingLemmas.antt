@@ -6,12 +6,12 @@ use Rattle.std.proofs.lemmas.Option.{slice_get_within}
 use Rattle.cg_base.specs.Refusing.{first}
 use Rattle.cg_base.specs.Texts.{seen_text}
 use Rattle.cg_base.specs.declared.refusal.Refusal.{Refusal}
-use Rattle.cg_choosing.proofs.ChosenLemmas.{IsOf, chosen_of_machine}
-use Rattle.cg_choosing.proofs.FrontLemmas.{none_is_none}
-use Rattle.cg_choosing.specs.Indexing.{GivesAll}
-use Rattle.cg_choosing.specs.Trying.{told_choice, fault_refusal, as_choice, operands_at}
-use Rattle.cg_lines.specs.Seen.{seen_statement, seen_line}
-use Rattle.cg_lines.specs.declared.line.Line as declared_line
+use Rattle.cg_syntax_choose.proofs.ChosenLemmas.{IsOf, chosen_of_machine}
+use Rattle.cg_syntax_choose.proofs.FrontLemmas.{none_is_none}
+use Rattle.cg_syntax_choose.specs.Indexing.{GivesAll}
+use Rattle.cg_syntax_choose.specs.Trying.{told_choice, fault_refusal, as_choice, operands_at}
+use Rattle.cg_syntax_lines.specs.Seen.{seen_statement, seen_line}
+use Rattle.cg_syntax_lines.specs.declared.line.Line as declared_line
 use Rattle.cg_model_source.specs.Bundling as spec
 use Rattle.cg_model_source.specs.Bundling.{BundlePart, empty, refused, stands, chosen_part, part_of, parts_at, instruction_bytes, with_bundle_bit}
 use Rattle.cg_model_source.specs.Choosing.{Choice, SourceFault, bytes_for, known_all, chosen}

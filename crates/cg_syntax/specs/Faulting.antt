@@ -3,7 +3,7 @@ use Rattle.std.specs.Prelude.{ℕ, nat_lt, if◌then◌else◌, List, [], length
 use Rattle.std.specs.Fmt.{signed_decimal}
 use Rattle.std.specs.Option.{option_or, option_map}
 use Rattle.cg_base.specs.declared.refusal.Refusal.{Refusal}
-use Rattle.cg_choosing.specs.Trying.{fault_refusal}
+use Rattle.cg_syntax_choose.specs.Trying.{fault_refusal}
 use Rattle.cg_model_source.specs.Choosing.{SourceFault}
 use Rattle.cg_model.specs.declared.machine.Machine.{Machine}
 use Rattle.cg_syntax.specs.Telling.{first_refused, first_label, has_empty}

@@ -1,7 +1,7 @@
 -- The bytes of the parts of a bundle.
 use Rattle.std.specs.Prelude.{◌≡◌, ℕ, ◌+◌, ◌<◌, ◌≤◌, Bool, true, false, List, [], ◌∷◌, ◌++◌, length, ℤ, Option, Some, None, slice_get}
-use Rattle.cg_choosing.specs.Trying.{as_choice, operands_at}
-use Rattle.cg_choosing.specs.declared.trying.Choice.{Choice}
+use Rattle.cg_syntax_choose.specs.Trying.{as_choice, operands_at}
+use Rattle.cg_syntax_choose.specs.declared.trying.Choice.{Choice}
 use Rattle.cg_model_source.specs.Bundling.{instruction_bytes}
 use Rattle.cg_model_source.specs.Choosing.{Objection, objection, known_all}
 use Rattle.cg_model.specs.declared.field.Field.{Field}

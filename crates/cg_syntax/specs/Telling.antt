@@ -3,7 +3,7 @@ use Rattle.std.specs.Prelude.{ℕ, ◌%◌, ◌^◌, Bool, true, false, ◌==◌
 use Rattle.std.specs.List.{list_any}
 use Rattle.std.specs.Option.{option_or}
 use Rattle.cg_base.specs.declared.refusal.Refusal.{Refusal}
-use Rattle.cg_choosing.specs.Trying.{told_choice, fault_refusal}
+use Rattle.cg_syntax_choose.specs.Trying.{told_choice, fault_refusal}
 use Rattle.cg_model_source.specs.Bundling.{BundlePart, empty, refused, stands}
 use Rattle.cg_model.specs.Clashing.{length_at}
 use Rattle.cg_model.specs.declared.machine.Machine.{Machine}

@@ -3,16 +3,16 @@
 ghost use Rattle.std.specs.Prelude.{◌≡◌, map, IfOk};
 ghost use Rattle.std.specs.Option.{option_copied};
 ghost use Rattle.cg_base.specs.Texts.{seen_text};
-ghost use Rattle.cg_choosing.specs.Indexing.{IsIndex, GivesAll};
+ghost use Rattle.cg_syntax_choose.specs.Indexing.{IsIndex, GivesAll};
 ghost use Rattle.cg_model_source.specs.Bundling as spec;
 ghost use Rattle.cg_model_source.specs.Spelling.{keywords};
 ghost use Rattle.cg_model.specs.Sound.{IsSound};
 ghost use Rattle.cg_syntax.specs.Telling.{told_part, told_parts, part_size, refused_as, first_refused, label_of, first_term, first_label, has_empty};
 
 use cg_base::{List, NoMemory, Refusal, Stop, Text};
-use cg_choosing::{Choice, Index, choose, sum_there};
+use cg_syntax_choose::{Choice, Index, choose, sum_there};
 use cg_code::length;
-use cg_fitting::Sums;
+use cg_syntax_fit::Sums;
 use cg_model::Machine;
 use cg_model_source::Sum;
 use std::alloc::Global;

@@ -2,18 +2,18 @@
 
 ghost use Rattle.std.specs.Prelude.{◌≡◌, ◌<◌, ◌++◌, length, if◌then◌else◌, OnOk, IfOk};
 ghost use Rattle.std.specs.Option.{option_map};
-ghost use Rattle.cg_choosing.specs.Indexing.{IsIndex};
-ghost use Rattle.cg_choosing.specs.Trying.{operands_at};
-ghost use Rattle.cg_fitting.specs.Misfits.{said};
+ghost use Rattle.cg_syntax_choose.specs.Indexing.{IsIndex};
+ghost use Rattle.cg_syntax_choose.specs.Trying.{operands_at};
+ghost use Rattle.cg_syntax_fit.specs.Misfits.{said};
 ghost use Rattle.cg_model_source.specs.Bundling as spec;
 ghost use Rattle.cg_model.specs.Sound.{IsSound};
 ghost use Rattle.cg_syntax.specs.Laying.{HasBundleBit, objection_at, bytes_at};
 
 use crate::bundle::Part;
 use cg_base::NoMemory;
-use cg_choosing::{Choice, Index};
+use cg_syntax_choose::{Choice, Index};
 use cg_code::{insn_at, put_bits};
-use cg_fitting::{Fitted, Misfit, fit};
+use cg_syntax_fit::{Fitted, Misfit, fit};
 use cg_model::Machine;
 use std::alloc::Global;
 

@@ -1,4 +1,4 @@
-ghost use Rattle.cg_choosing.specs.Indexing.{GivesAll};
+ghost use Rattle.cg_syntax_choose.specs.Indexing.{GivesAll};
 ghost use Rattle.cg_model_faults.specs.Accepted.{IsAccepted};
 ghost use Rattle.cg_syntax.specs.Laying.{HasBundleBit};
 

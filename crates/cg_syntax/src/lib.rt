@@ -9,7 +9,7 @@ mod stating;
 
 pub use bundle::{Part, first_label, first_refused, has_empty, part_size, parts_at};
 pub use bytes::{put_instruction, set_bundle_bit};
-pub use cg_choosing::{Choice, Index, Pattern, choose};
+pub use cg_syntax_choose::{Choice, Index, Pattern, choose};
 pub use laws::accepted_is_ready;
 pub use shown::show;
 pub use stating::{said_alone, statement};

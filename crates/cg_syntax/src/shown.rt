@@ -14,7 +14,7 @@ use cg_base::{Mode, NoMemory, Text, bits, decimal, hex, signed};
 use cg_code::{insn_at, operand_at, slot_mode};
 use cg_model::{Hardware, HwKind, Machine, NamedValue, Operand, Part, Values};
 use cg_model_source::Mark;
-use cg_split::squeezed_syntax;
+use cg_syntax_split::squeezed_syntax;
 use std::alloc::Global;
 
 /// The first word whose own value is this, modulo 2^bits.

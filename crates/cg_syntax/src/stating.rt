@@ -4,7 +4,7 @@ ghost use Rattle.std.specs.Prelude.{◌≡◌, ◌++◌, map, IfOk, OnOk};
 ghost use Rattle.std.specs.Option.{option_map};
 ghost use Rattle.cg_base.specs.Answering.{Answered};
 ghost use Rattle.cg_base.specs.Texts.{seen_text};
-ghost use Rattle.cg_choosing.specs.Indexing.{IsIndex, GivesAll};
+ghost use Rattle.cg_syntax_choose.specs.Indexing.{IsIndex, GivesAll};
 ghost use Rattle.cg_model_source.specs.Bundling.{parts_at};
 ghost use Rattle.cg_model_source.specs.Spelling.{keywords};
 ghost use Rattle.cg_model_source.specs.Stating as spec;
@@ -15,8 +15,8 @@ ghost use Rattle.cg_syntax.specs.Faulting.{statement_fault, said_alone, refusal_
 use crate::bundle::{Part, first_label, first_refused, has_empty, parts_at};
 use crate::bytes::put_instruction;
 use cg_base::{NoMemory, Refusal, Stop, Text, decimal};
-use cg_choosing::{Index, known_all};
-use cg_lines::{bundle_texts, is_readable, read_line};
+use cg_syntax_choose::{Index, known_all};
+use cg_syntax_lines::{bundle_texts, is_readable, read_line};
 use cg_model::Machine;
 use std::alloc::Global;
 
@@ -173,7 +173,7 @@ pub fn statement(
     }
     let line = read_line(text);
     match line.statement {
-        cg_lines::Statement::Nothing => Ok(stated_parts(
+        cg_syntax_lines::Statement::Nothing => Ok(stated_parts(
             alloc,
             machine,
             index,
@@ -181,10 +181,10 @@ pub fn statement(
             &[],
             pc,
         )?),
-        cg_lines::Statement::Directive { name, .. } => Err(Stop::Refused(said_alone(
+        cg_syntax_lines::Statement::Directive { name, .. } => Err(Stop::Refused(said_alone(
             alloc, 608, name,
         )?)),
-        cg_lines::Statement::Bundle(bundle) => {
+        cg_syntax_lines::Statement::Bundle(bundle) => {
             let texts = bundle_texts(alloc, bundle)?;
             let texts = texts.as_slice();
             Ok(stated_parts(alloc, machine, index, line.label, texts, pc)?)

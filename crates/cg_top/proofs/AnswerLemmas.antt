@@ -9,23 +9,23 @@ use Rattle.cg_top.specs.declared.asking.Asked.{Asked}
 use Rattle.cg_top.specs.declared.asking.Command.{Command}
 use Rattle.cg_top.specs.declared.asking.Assembly.{Assembly}
 use Rattle.cg_top.specs.declared.asking.Command.TheVariants.{Check, Decode, Assemble, ListImage}
-use Rattle.cg_gather.specs.declared.gathering.Fetched.{Fetched}
-use Rattle.cg_gather.specs.declared.gathering.Fetched.TheVariants.{Read, Refused, Unread}
+use Rattle.cg_top_include.specs.declared.gathering.Fetched.{Fetched}
+use Rattle.cg_top_include.specs.declared.gathering.Fetched.TheVariants.{Read, Refused, Unread}
 use Rattle.cg_model_source.specs.Imaging.{SourceRefusal, image}
 use Rattle.cg_model_source.specs.Sourcing.{only_set}
 use Rattle.cg_model.specs.declared.machine.Machine.{Machine}
 use Rattle.cg_top.specs.declared.replies.NewFile.{NewFile}
 use Rattle.cg_top.specs.declared.replies.Reply.{Reply}
 use Rattle.cg_top.specs.Asking.{asked}
-use Rattle.cg_gather.specs.Gathering.{Opens, no_sources}
-use Rattle.cg_gather.specs.Fetching.{IsUnreadable, askings, files_asked}
+use Rattle.cg_top_include.specs.Gathering.{Opens, no_sources}
+use Rattle.cg_top_include.specs.Fetching.{IsUnreadable, askings, files_asked}
 use Rattle.cg_top.specs.Own.{own_asking, own_file, own_asked, IsOwn, IsOwnUnreadable}
 use Rattle.cg_top.specs.Replies.{bad_words, refused, cannot_read, assembled, performed, performed_on, RepliesTo}
 use Rattle.cg_top.specs.Answer.{IsReply, IsBad, Answer}
 use Rattle.cg_top.specs.Top.{IsUnread}
 use Rattle.cg_top.proofs.Loaded.{one_loaded}
 use Rattle.cg_top.proofs.OwnLemmas.{own_known, one_text, out_text, none_out}
-use Rattle.cg_gather.proofs.OneReading.{IsUnreadAt, opens_known, opens_told, one_opened}
+use Rattle.cg_top_include.proofs.OneReading.{IsUnreadAt, opens_known, opens_told, one_opened}
 
 abbrev status_of : Reply → ℕ
 status_of r = r.status

@@ -2,7 +2,7 @@
 use Rattle.std.proofs.Common.{◌≡◌, ℕ, ◌+◌, ◌*◌, List, [], ◌∷◌, ◌++◌, Option, Some, None, refl, ap, append_assoc, ◌∙◌}
 use Rattle.std.specs.Option.{option_map}
 use Rattle.cg_base.specs.Parts.{◌>>=◌}
-use Rattle.cg_gather.specs.Shape.{four}
+use Rattle.cg_top_include.specs.Shape.{four}
 use Rattle.cg_top.specs.Asking.{digit_of, bytes_of, five}
 
 joined : (front : List ℕ) (x : ℕ) (o : Option (List ℕ)) → option_map (λ bs. (front ++ x ∷ []) ++ bs) o ≡ option_map (λ bs. front ++ bs) (o >>= λ bs. Some (x ∷ bs))

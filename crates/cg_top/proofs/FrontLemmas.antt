@@ -2,10 +2,10 @@
 use Rattle.std.proofs.Common.{◌≡◌, ◌⊎◌, ◌≤◌, ℕ, zero, suc, List, [], ◌∷◌, ◌++◌, length, take, Option, Some, None, Result, refl, sym, ap, subst, ◌∙◌, inl, inr, arith}
 use Rattle.std.proofs.lemmas.List.{take_all}
 use Rattle.cg_base.specs.Counts.{Rose}
-use Rattle.cg_gather.specs.Fetching.{IsFetched, HasAsked, HasAskedFront, askings, files_asked}
-use Rattle.cg_gather.specs.declared.gathering.Fetched.{Fetched}
-use Rattle.cg_gather.specs.declared.gathering.Fetched.TheVariants.{Read, Refused, Unread}
-use Rattle.cg_gather.proofs.OneReading.{IsUnreadAt, opens_known, one_opened}
+use Rattle.cg_top_include.specs.Fetching.{IsFetched, HasAsked, HasAskedFront, askings, files_asked}
+use Rattle.cg_top_include.specs.declared.gathering.Fetched.{Fetched}
+use Rattle.cg_top_include.specs.declared.gathering.Fetched.TheVariants.{Read, Refused, Unread}
+use Rattle.cg_top_include.proofs.OneReading.{IsUnreadAt, opens_known, one_opened}
 use Rattle.cg_io.specs.Asking.{Asking}
 use Rattle.cg_io.specs.Held.{Held, appended, AppendsFront}
 use Rattle.cg_top.specs.declared.asking.Asked.{Asked}

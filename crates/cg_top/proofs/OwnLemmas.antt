@@ -2,9 +2,9 @@
 use Rattle.std.proofs.Common.{◌≡◌, ◌⊎◌, ◌≤◌, ℕ, List, [], ◌++◌, length, Option, Some, None, Result, Ok, Err, refl, sym, ap, ◌∙◌, inl, inr, append_assoc, arith}
 use Rattle.std.proofs.lemmas.List.{append-nil}
 use Rattle.cg_base.specs.Counts.{Rose}
-use Rattle.cg_gather.specs.Gathering.{Opens, unread, refused, read, Gathers, whole, short, file, another}
-use Rattle.cg_gather.specs.declared.gathering.Fetched.{Fetched}
-use Rattle.cg_gather.specs.declared.gathering.Sources.{Sources}
+use Rattle.cg_top_include.specs.Gathering.{Opens, unread, refused, read, Gathers, whole, short, file, another}
+use Rattle.cg_top_include.specs.declared.gathering.Fetched.{Fetched}
+use Rattle.cg_top_include.specs.declared.gathering.Sources.{Sources}
 use Rattle.cg_base.specs.declared.form.Top.{Top}
 use Rattle.cg_io.specs.Asking.{Asking}
 use Rattle.cg_io.specs.Held.{Held, appended}

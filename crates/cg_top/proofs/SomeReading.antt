@@ -12,20 +12,20 @@ use Rattle.cg_io.specs.Asking.{Asking}
 use Rattle.cg_io.specs.Held.{Held}
 use Rattle.cg_pmacro.specs.declared.tops.TheConstants.{SHORT_FORMS}
 use Rattle.cg_top.specs.declared.asking.Asked.{Asked}
-use Rattle.cg_gather.specs.declared.gathering.Fetched.{Fetched}
-use Rattle.cg_gather.specs.declared.gathering.Fetched.TheVariants.{Read, Refused, Unread}
-use Rattle.cg_gather.specs.declared.gathering.Sources.{Sources}
-use Rattle.cg_gather.specs.declared.including.Include.{Include}
+use Rattle.cg_top_include.specs.declared.gathering.Fetched.{Fetched}
+use Rattle.cg_top_include.specs.declared.gathering.Fetched.TheVariants.{Read, Refused, Unread}
+use Rattle.cg_top_include.specs.declared.gathering.Sources.{Sources}
+use Rattle.cg_top_include.specs.declared.including.Include.{Include}
 use Rattle.cg_top.specs.declared.replies.Reply.{Reply}
 use Rattle.cg_top.specs.Asking.{asked}
-use Rattle.cg_gather.specs.Including.{included, is_short, parted, parted_at, include_at}
-use Rattle.cg_gather.specs.Gathering.{no_sources, HasText, with_file, with_short, may_include, too_many, placed, behind, Opens, unread, refused, read, Gathers, whole, short, file, another}
-use Rattle.cg_gather.specs.Fetching.{askings, files_asked}
+use Rattle.cg_top_include.specs.Including.{included, is_short, parted, parted_at, include_at}
+use Rattle.cg_top_include.specs.Gathering.{no_sources, HasText, with_file, with_short, may_include, too_many, placed, behind, Opens, unread, refused, read, Gathers, whole, short, file, another}
+use Rattle.cg_top_include.specs.Fetching.{askings, files_asked}
 use Rattle.cg_top.specs.Own.{own_file, own_asked, IsOwn}
 use Rattle.cg_top.specs.Replies.{bad_words, refused as refused_reply, cannot_read, performed_on, RepliesTo}
 use Rattle.cg_top.proofs.Loaded.{some_loaded}
 use Rattle.cg_top.specs.Answer.{IsBad, IsReply, Answer}
-use Rattle.cg_gather.proofs.ShortForms.{no_fault}
+use Rattle.cg_top_include.proofs.ShortForms.{no_fault}
 
 -- where the short forms stand already, no include of them is met
 once_at : (there : Bool) (top : Top) (tops : List Top) (x : Include) → ((parted there tops).include ≡ Some x → (there && is_short x.name) ≡ false) →

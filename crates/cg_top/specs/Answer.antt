@@ -3,10 +3,10 @@ use Rattle.std.specs.Prelude.{◌≡◌, ℕ, List, [], ◌++◌, Option, Some, 
 use Rattle.cg_io.specs.Asking.{Asking}
 use Rattle.cg_io.specs.Held.{Held, appended, written}
 use Rattle.cg_top.specs.declared.asking.Asked.{Asked}
-use Rattle.cg_gather.specs.declared.gathering.Fetched.{Fetched}
+use Rattle.cg_top_include.specs.declared.gathering.Fetched.{Fetched}
 use Rattle.cg_top.specs.declared.replies.Reply.{Reply}
 use Rattle.cg_top.specs.Asking.{asked}
-use Rattle.cg_gather.specs.Fetching.{IsFetched, askings, files_asked}
+use Rattle.cg_top_include.specs.Fetching.{IsFetched, askings, files_asked}
 use Rattle.cg_top.specs.Own.{own_file, own_asked, IsOwn}
 use Rattle.cg_top.specs.Replies.{bad_words, RepliesTo}
 

@@ -3,7 +3,7 @@ use Rattle.std.specs.Prelude.{ℕ, ◌+◌, ◌-◌, ◌*◌, ◌&&◌, nat_le, 
 use Rattle.cg_base.specs.Parts.{◌>>=◌}
 use Rattle.cg_base.specs.Numerals.{number_written}
 use Rattle.cg_base.specs.Texts.{same_text}
-use Rattle.cg_gather.specs.Shape.{two, three, four}
+use Rattle.cg_top_include.specs.Shape.{two, three, four}
 use Rattle.cg_top.specs.declared.asking.Asked.{Asked}
 use Rattle.cg_top.specs.declared.asking.Command.TheVariants.{Check, Decode, Assemble, ListImage}
 

@@ -1,8 +1,8 @@
 -- The file that a command reads besides the description, once that is read.
 use Rattle.std.specs.Prelude.{◌≡◌, ◌⊎◌, ℕ, ◌≤◌, List, [], ◌∷◌, length, Option, Some, None, Result, Ok, Err}
-use Rattle.cg_gather.specs.Fetching.{IsFetched}
-use Rattle.cg_gather.specs.declared.gathering.Fetched.{Fetched}
-use Rattle.cg_gather.specs.declared.gathering.Fetched.TheVariants.{Read, Refused, Unread}
+use Rattle.cg_top_include.specs.Fetching.{IsFetched}
+use Rattle.cg_top_include.specs.declared.gathering.Fetched.{Fetched}
+use Rattle.cg_top_include.specs.declared.gathering.Fetched.TheVariants.{Read, Refused, Unread}
 use Rattle.cg_io.specs.Asking.{Asking}
 use Rattle.cg_io.specs.Held.{Held, HasBytes, Lacks, HasMore}
 use Rattle.cg_top.specs.declared.asking.Command.{Command}

@@ -9,8 +9,8 @@ use Rattle.cg_top.specs.declared.asking.Command.{Command}
 use Rattle.cg_top.specs.declared.asking.Assembly.{Assembly}
 use Rattle.cg_top.specs.declared.asking.Listing.{Listing}
 use Rattle.cg_top.specs.declared.asking.Command.TheVariants.{Check, Decode, Assemble, ListImage}
-use Rattle.cg_gather.specs.declared.gathering.Fetched.{Fetched}
-use Rattle.cg_gather.specs.declared.gathering.Fetched.TheVariants.{Read, Refused, Unread}
+use Rattle.cg_top_include.specs.declared.gathering.Fetched.{Fetched}
+use Rattle.cg_top_include.specs.declared.gathering.Fetched.TheVariants.{Read, Refused, Unread}
 use Rattle.cg_list.specs.Decoding.{decoded_line}
 use Rattle.cg_desc.specs.Answering.{as_stop}
 use Rattle.cg_model.specs.Clashing.{decoded_to}

@@ -5,7 +5,7 @@ use Rattle.cg_io.specs.Held.{Held, appended, written, KeepsOthers}
 use Rattle.cg_top.specs.declared.replies.NewFile.{NewFile}
 use Rattle.cg_top.specs.declared.replies.Reply.{Reply}
 use Rattle.cg_top.specs.Asking.{asked}
-use Rattle.cg_gather.specs.Fetching.{IsUnreadable}
+use Rattle.cg_top_include.specs.Fetching.{IsUnreadable}
 use Rattle.cg_top.specs.Answer.{Answer, with_file}
 use Rattle.cg_top.specs.Own.{IsOwnUnreadable}
 

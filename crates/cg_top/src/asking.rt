@@ -3,7 +3,7 @@ ghost use Rattle.std.specs.Option.{option_map};
 ghost use Rattle.cg_top.specs.Asking.{digit_of, bytes_of, hex_bytes, decode_asked, check_asked, asm_asked, list_asked, asked, five};
 
 use cg_base::{NoMemory, Text, read_number};
-use cg_gather::{four, three, two};
+use cg_top_include::{four, three, two};
 use std::alloc::Global;
 
 /// What a machine is asked for.

@@ -12,9 +12,9 @@ ghost use Rattle.cg_top.specs.Answer.{Answer};
 ghost use Rattle.cg_top.specs.Replies.{performed};
 ghost use Rattle.cg_top.specs.Top.{text_of};
 
-use cg_listing::listings_give_back;
+use cg_list_laws::listings_give_back;
 use cg_model::Machine;
-use cg_sound::accepted_is_sound;
+use cg_model_laws::accepted_is_sound;
 use cg_syntax::accepted_is_ready;
 
 /// A law of the definitions: over files that tell what they hold, words are answered in one way

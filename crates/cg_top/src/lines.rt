@@ -3,7 +3,7 @@ ghost use Rattle.cg_base.specs.Texts.{seen_text};
 ghost use Rattle.cg_top.specs.Lines.{line_before, lines_of, rest_of};
 
 use cg_base::{List, NoMemory, Text};
-use cg_lines::line_texts;
+use cg_syntax_lines::line_texts;
 use std::alloc::Global;
 
 /// A line with its end.

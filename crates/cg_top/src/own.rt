@@ -6,7 +6,7 @@ ghost use Rattle.cg_top.specs.Own.{own_file, own_asked, IsOwn, seen_own};
 
 use crate::asking::Command;
 use cg_base::{NoMemory, Text};
-use cg_gather::Fetched;
+use cg_top_include::Fetched;
 use cg_io::{FileFault, Files};
 use std::alloc::Global;
 

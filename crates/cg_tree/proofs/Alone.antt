@@ -14,13 +14,13 @@ use Rattle.cg_model.specs.Matching.{length_of, fields_of_parts, part_stands, ass
 use Rattle.cg_model.specs.Sound.{IsSound}
 use Rattle.cg_model.specs.declared.insn.Insn.{Insn}
 use Rattle.cg_model.specs.declared.machine.Machine.{Machine}
-use Rattle.cg_view.specs.Constants.{parts_cover, parts_value}
-use Rattle.cg_view.specs.View.{whole}
-use Rattle.cg_view.proofs.Depending.{same_asserted}
-use Rattle.cg_view.proofs.Naming.{placed_among, asked_low}
-use Rattle.cg_view.proofs.Standing.{parts_to_whole, parts_from_whole}
-use Rattle.cg_view.proofs.Wholes.{whole_fits, whole_bit, front_bytes, low_bit}
-use Rattle.cg_view.proofs.Within.{last_within, covered}
+use Rattle.cg_code_mask.specs.Constants.{parts_cover, parts_value}
+use Rattle.cg_code_mask.specs.View.{whole}
+use Rattle.cg_code_mask.proofs.Depending.{same_asserted}
+use Rattle.cg_code_mask.proofs.Naming.{placed_among, asked_low}
+use Rattle.cg_code_mask.proofs.Standing.{parts_to_whole, parts_from_whole}
+use Rattle.cg_code_mask.proofs.Wholes.{whole_fits, whole_bit, front_bytes, low_bit}
+use Rattle.cg_code_mask.proofs.Within.{last_within, covered}
 use Rattle.cg_tree.specs.Decoding.{NoMatch}
 use Rattle.cg_tree.proofs.Decoding.{StandFrom, from_zero}
 

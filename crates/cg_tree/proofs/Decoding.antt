@@ -12,10 +12,10 @@ use Rattle.cg_model.specs.Matching.{length_of, part_stands, asserts, matches}
 use Rattle.cg_model.specs.Sound.{IsSound}
 use Rattle.cg_model.specs.declared.insn.Insn.{Insn}
 use Rattle.cg_model.specs.declared.machine.Machine.{Machine}
-use Rattle.cg_view.specs.View.{whole}
-use Rattle.cg_view.specs.Constants.{parts_cover, parts_value}
-use Rattle.cg_view.specs.declared.format.Constants.{Constants}
-use Rattle.cg_view.proofs.Standing.{parts_to_whole}
+use Rattle.cg_code_mask.specs.View.{whole}
+use Rattle.cg_code_mask.specs.Constants.{parts_cover, parts_value}
+use Rattle.cg_code_mask.specs.declared.format.Constants.{Constants}
+use Rattle.cg_code_mask.proofs.Standing.{parts_to_whole}
 use Rattle.cg_tree.specs.declared.tree.Tree.{Tree}
 use Rattle.cg_tree.specs.Trees.{is_set, reached, all_nodes, size, Tested}
 use Rattle.cg_tree.specs.Candidates.{said_by, table_of, constant_in, constant_at, agrees, passes, is_candidate, candidates, decodable_from, decodables}

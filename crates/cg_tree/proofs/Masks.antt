@@ -7,8 +7,8 @@ use Rattle.std.proofs.lemmas.List.{drop_all}
 use Rattle.std.proofs.lemmas.Nat.Bits.{bit_at_and, bit_at_or, bit_at_xor, bit_at-lt, bit_at-zero}
 use Rattle.std.proofs.lemmas.Bool.{false≢true, eqb-true, eq-eqb, or_left, or_right, or_cases, cases_eq, cases_lt}
 use Rattle.cg_model.specs.Sound.{is_among}
-use Rattle.cg_view.specs.declared.format.Constants.{Constants}
-use Rattle.cg_view.proofs.Formats.{or_assoc, or_zero, zero_or}
+use Rattle.cg_code_mask.specs.declared.format.Constants.{Constants}
+use Rattle.cg_code_mask.proofs.Formats.{or_assoc, or_zero, zero_or}
 use Rattle.cg_tree.specs.Trees.{is_set}
 use Rattle.cg_tree.specs.Candidates.{constant_in, constant_at, agrees, TellsApart}
 use Rattle.cg_tree.specs.Telling.{ones_of, zeros_of, any_one, any_zero, telling, ones_below, IsOne}

@@ -1,7 +1,7 @@
 -- How a tree grows over candidates.
 use Rattle.std.proofs.Common.{◌≡◌, ℕ, ◌+◌, ◌-◌, ◌*◌, ◌<◌, ◌≤◌, max, Bool, true, false, List, [], ◌∷◌, ◌++◌, length, sym, ap, ◌∙◌, subst, arith}
 use Rattle.std.specs.List.{filter}
-use Rattle.cg_view.specs.declared.format.Constants.{Constants}
+use Rattle.cg_code_mask.specs.declared.format.Constants.{Constants}
 use Rattle.cg_tree.specs.declared.branch.Branch.{Branch}
 use Rattle.cg_tree.specs.Trees.{Tested, Node, height, all_nodes, past_test}
 use Rattle.cg_tree.specs.Trees.Node.{leaf_at, test_at}

@@ -2,7 +2,7 @@
 use Rattle.std.proofs.Common.{◌≡◌, ℕ, Bool, true, false, not, ◌&&◌, if◌then◌else◌, List, [], ◌∷◌, ◌++◌, Bor, Some, sym, ap, ◌∙◌, refl, subst}
 use Rattle.std.specs.List.{list_all}
 use Rattle.std.proofs.lemmas.Bool.{and_from}
-use Rattle.cg_view.specs.declared.format.Constants.{Constants}
+use Rattle.cg_code_mask.specs.declared.format.Constants.{Constants}
 use Rattle.cg_tree.specs.declared.branch.Branch.{Branch}
 use Rattle.cg_tree.specs.declared.branch.Branch.TheOpen.{Branch-F}
 use Rattle.cg_tree.specs.declared.branch.Branch.TheOpen as layer

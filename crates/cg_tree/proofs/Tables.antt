@@ -4,8 +4,8 @@ use Rattle.std.proofs.Math.Seq.{drop-cons}
 use Rattle.std.proofs.lemmas.List.{drop_all}
 use Rattle.cg_model.specs.declared.insn.Insn.{Insn}
 use Rattle.cg_model.specs.declared.machine.Machine.{Machine}
-use Rattle.cg_view.specs.declared.format.Constants.{Constants}
-use Rattle.cg_view.specs.Constants.{parts_cover, parts_value}
+use Rattle.cg_code_mask.specs.declared.format.Constants.{Constants}
+use Rattle.cg_code_mask.specs.Constants.{parts_cover, parts_value}
 use Rattle.cg_tree.specs.Candidates.{said_by, decodable_from, decodables}
 
 abbrev both : ℕ → ℕ → Constants

@@ -1,7 +1,7 @@
 -- Lists of tight nodes, and the candidates behind a test.
 use Rattle.std.proofs.Common.{◌≡◌, ℕ, Bool, true, false, ◌&&◌, cond, List, [], ◌∷◌, ◌++◌, sym, ap, ◌∙◌, refl}
 use Rattle.std.specs.List.{filter, list_all}
-use Rattle.cg_view.specs.declared.format.Constants.{Constants}
+use Rattle.cg_code_mask.specs.declared.format.Constants.{Constants}
 use Rattle.cg_tree.specs.Trees.{Tested, Node, past_test}
 use Rattle.cg_tree.specs.Trees.Node.{leaf_at, test_at}
 use Rattle.cg_tree.specs.Candidates.{constant_at, agrees, is_candidate, candidates, IsTightAt, AreTight}

@@ -7,9 +7,9 @@ use Rattle.std.proofs.lemmas.Nat.Bits.{same_from_bits_below}
 use mir.Val.{Fits}
 use Rattle.cg_model.specs.Clashing.{AreBytes}
 use Rattle.cg_model.specs.declared.machine.Machine.{Machine}
-use Rattle.cg_view.specs.View.{whole}
-use Rattle.cg_view.specs.declared.format.Constants.{Constants}
-use Rattle.cg_view.proofs.Wholes.{whole_fits, whole_bit, front_bytes}
+use Rattle.cg_code_mask.specs.View.{whole}
+use Rattle.cg_code_mask.specs.declared.format.Constants.{Constants}
+use Rattle.cg_code_mask.proofs.Wholes.{whole_fits, whole_bit, front_bytes}
 use Rattle.cg_tree.specs.declared.branch.Branch.{Branch}
 use Rattle.cg_tree.specs.declared.tree.Tree.{Tree}
 use Rattle.cg_tree.specs.Trees.{size, height, all_nodes}

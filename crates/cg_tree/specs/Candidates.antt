@@ -4,8 +4,8 @@ use Rattle.std.specs.List.{filter, list_all}
 use Rattle.cg_model.specs.declared.insn.Insn.{Insn}
 use Rattle.cg_model.specs.declared.machine.Machine.{Machine}
 use Rattle.cg_model.specs.Sound.{is_among}
-use Rattle.cg_view.specs.declared.format.Constants.{Constants}
-use Rattle.cg_view.specs.Constants.{parts_cover, parts_value}
+use Rattle.cg_code_mask.specs.declared.format.Constants.{Constants}
+use Rattle.cg_code_mask.specs.Constants.{parts_cover, parts_value}
 use Rattle.cg_tree.specs.Trees.{is_set, Tested, Node}
 use Rattle.cg_tree.specs.Trees.Node.{leaf_at, test_at}
 

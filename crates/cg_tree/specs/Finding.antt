@@ -3,7 +3,7 @@ use Rattle.std.specs.Prelude.{◌≡◌, ℕ, ◌+◌, ◌*◌, ◌<◌, ◌≤�
 use Rattle.std.specs.List.{find}
 use Rattle.cg_code.specs.Coded.{matches_at}
 use Rattle.cg_model.specs.declared.machine.Machine.{Machine}
-use Rattle.cg_view.specs.View.{whole}
+use Rattle.cg_code_mask.specs.View.{whole}
 use Rattle.cg_tree.specs.declared.tree.Tree.{Tree}
 use Rattle.cg_tree.specs.Trees.{reached, tests, size, all_nodes}
 use Rattle.cg_tree.specs.Candidates.{table_of, decodables, AreTight}

@@ -1,6 +1,6 @@
 -- What a tree is that grew over some candidates, node by node.
 use Rattle.std.specs.Prelude.{◌≡◌, ℕ, ◌+◌, ◌*◌, ◌<◌, ◌≤◌, max, true, false, List, [], ◌∷◌, ◌++◌}
-use Rattle.cg_view.specs.declared.format.Constants.{Constants}
+use Rattle.cg_code_mask.specs.declared.format.Constants.{Constants}
 use Rattle.cg_tree.specs.declared.branch.Branch.{Branch}
 use Rattle.cg_tree.specs.Trees.{size, height, all_nodes, past_test, Tested}
 use Rattle.cg_tree.specs.Trees.Node.{leaf_at, test_at}

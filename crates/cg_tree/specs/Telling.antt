@@ -1,7 +1,7 @@
 -- The bits that tell instructions apart, as masks.
 use Rattle.std.specs.Prelude.{◌≡◌, ℕ, zero, suc, ◌+◌, ◌<◌, bit_and, bit_or, bit_xor, true, List, [], ◌∷◌, Option, Some, None, slice_get}
 use Rattle.std.specs.Int.{bit_at}
-use Rattle.cg_view.specs.declared.format.Constants.{Constants}
+use Rattle.cg_code_mask.specs.declared.format.Constants.{Constants}
 use Rattle.cg_tree.specs.Trees.{is_set}
 
 -- The bits that are a constant 1 of an instruction, and those that are a constant 0.

@@ -5,7 +5,7 @@ ghost use Rattle.cg_tree.specs.Telling as spec;
 
 use crate::bits::{is_set, lowest};
 use crate::table::constant_at;
-use cg_view::Constants;
+use cg_code_mask::Constants;
 
 /// The bits that are constants of an instruction, or of any of some.
 #[derive(Clone, Copy)]

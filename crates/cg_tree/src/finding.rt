@@ -5,14 +5,14 @@ ghost use Rattle.cg_model.specs.Clashing.{decoded_to};
 ghost use Rattle.cg_model.specs.Sound.{IsSound};
 ghost use Rattle.cg_tree.specs.Finding as spec;
 ghost use Rattle.cg_tree.specs.Counted.{risen};
-ghost use Rattle.cg_view.specs.View.{whole};
+ghost use Rattle.cg_code_mask.specs.View.{whole};
 
 use crate::branch::reach;
 use crate::steps::Steps;
 use crate::tree::Tree;
 use cg_code::matches;
 use cg_model::Machine;
-use cg_view::whole_of;
+use cg_code_mask::whole_of;
 
 impl Tree<'_> {
     /// The bytes lead to one leaf (docs/LANGUAGE.md, "The decision tree"); of the instructions that it

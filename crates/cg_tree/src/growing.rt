@@ -8,7 +8,7 @@ use crate::branch::{Branch, fork, leaf};
 use crate::table::{agrees, constant_at};
 use bumpalo::Bump;
 use cg_base::{List, NoMemory};
-use cg_view::Constants;
+use cg_code_mask::Constants;
 use std::alloc::Global;
 
 /// A tree, and how many leaves more may be parted.

@@ -11,13 +11,13 @@ ghost use Rattle.cg_model_faults.specs.Accepted.{IsAccepted};
 
 use crate::machine::{machine, many};
 use bumpalo::Bump;
-use cg_accept::check;
+use cg_desc_check::check;
 use cg_base::{NoMemory, Text, decimal};
-use cg_formed::is_formed;
+use cg_desc_check_values::is_formed;
 use cg_io::{HostSink, Sink};
 use cg_list::list;
 use cg_model::Machine;
-use cg_sound::accepted_is_sound;
+use cg_model_laws::accepted_is_sound;
 use cg_syntax::{Index, accepted_is_ready};
 use cg_tree::{Steps, Tree, build};
 use std::alloc::Global;

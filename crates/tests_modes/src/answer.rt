@@ -4,7 +4,7 @@ use crate::machine::scope_of;
 use cg_base::{Form, Mode, NoMemory, Stop, Text, Top, decimal, mode_word};
 use cg_model::Machine;
 use cg_modes::{ModeFault, mode_of};
-use cg_names::{Rule, resolve};
+use cg_rtl_resolve::{Rule, resolve};
 use std::alloc::Global;
 
 /// The mode that is wanted.

@@ -2,7 +2,7 @@
 
 use cg_base::{Endian, Form, Forms, List, Mode, NoMemory, Stop, Text};
 use cg_model::{Alignment, Field, Hardware, HwKind, Machine, Multi, Op, Operand, Rtl, Source};
-use cg_names::{EnumValue, Rule, Scope, resolve};
+use cg_rtl_resolve::{EnumValue, Rule, Scope, resolve};
 use std::alloc::Global;
 
 /// The names of hardware, its kinds and its modes.

@@ -1,4 +1,4 @@
-use Rattle.cg_view.specs.View.{bytes_of_whole}
+use Rattle.cg_code_mask.specs.View.{bytes_of_whole}
 use Rattle.cg_ambig.proofs.Filling.{clash_on_bytes}
 use Rattle.cg_ambig.proofs.ambiguity.clash_on.Goals as goal
 

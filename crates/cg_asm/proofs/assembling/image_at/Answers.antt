@@ -4,7 +4,7 @@ use Rattle.cg_asm.proofs.ImageLemmas.{lines_stand, all_within}
 use Rattle.cg_asm.proofs.assembling.image_at.Goals as goal
 use Rattle.cg_base.specs.Answering.{Answered}
 use Rattle.cg_base.specs.Texts.{seen_text}
-use Rattle.cg_joining.specs.Joining.{AllWithin, lines_put}
+use Rattle.cg_asm_labels.specs.Joining.{AllWithin, lines_put}
 
 pub lines_put-requires-clause-within : goal.lines_put-requires-clause-within
 lines_put-requires-clause-within c =

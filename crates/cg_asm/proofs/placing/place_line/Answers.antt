@@ -5,7 +5,7 @@ use Rattle.cg_asm.proofs.PlacingLemmas.{line_refused, line_stands, stands_low, w
 use Rattle.cg_asm.proofs.placing.place_line.Goals as goal
 use Rattle.cg_asm.specs.declared.placing.Layout.{Layout}
 use Rattle.cg_base.specs.Texts.{seen_text}
-use Rattle.cg_lines.specs.Seen.{seen_statement}
+use Rattle.cg_syntax_lines.specs.Seen.{seen_statement}
 
 pub returns-in-Some-clause-laid : goal.returns-in-Some-clause-laid
 returns-in-Some-clause-laid c =

@@ -1,8 +1,8 @@
 use Rattle.std.proofs.Common.{rules, ◌≡◌, ◌∙◌, ap, Err}
 use Rattle.cg_base.specs.declared.refusal.Stop.TheVariants.{NoMemory}
-use Rattle.cg_data.specs.Seen.{seen}
-use Rattle.cg_described.specs.Described.{scope_of}
-use Rattle.cg_described.specs.Seen.{seen_described, forms_of}
+use Rattle.cg_desc_data.specs.Seen.{seen}
+use Rattle.cg_desc_scope.specs.Described.{scope_of}
+use Rattle.cg_desc_scope.specs.Seen.{seen_described, forms_of}
 use Rattle.cg_desc.proofs.Answers.{unknown_selection, gives_selection}
 use Rattle.cg_desc.proofs.judging.described_machine.Goals as goal
 

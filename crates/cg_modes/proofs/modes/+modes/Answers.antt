@@ -2,7 +2,7 @@ use Rattle.std.proofs.Common.{◌≡◌, ap, Ok, ◌∙◌, sym, subst, ◌<◌,
 use Rattle.std.proofs.lemmas.Grind.{common_steps}
 use Rattle.cg_model.specs.Checked.{Verdict, and_then, is_place}
 use Rattle.cg_model.specs.declared.rtl.Rtl.{Rtl, out-Rtl}
-use Rattle.cg_leaf.specs.Scope.{locals_of}
+use Rattle.cg_modes_leaf.specs.Scope.{locals_of}
 use Rattle.cg_modes.specs.Arms.{before}
 use Rattle.cg_modes.proofs.Laws.{dropped_more, either_first, either_second, set_law, sequence_law, around_rules}
 use Rattle.cg_modes.proofs.Arms.{test_more, before_tested, case_law, walked_more, valueless_more}

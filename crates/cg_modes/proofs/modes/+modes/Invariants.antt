@@ -1,6 +1,6 @@
 use Rattle.std.proofs.Common.{◌≡◌, map, take, drop}
 use Rattle.cg_model.specs.Checked.{checked, each_any, each_dropped, in_order, each_value, each_part, all_but_last}
-use Rattle.cg_leaf.specs.Scope.{locals_of}
+use Rattle.cg_modes_leaf.specs.Scope.{locals_of}
 use Rattle.cg_modes.specs.Arms.{walked, valueless}
 use Rattle.cg_modes.proofs.modes.+modes.Given as goal
 

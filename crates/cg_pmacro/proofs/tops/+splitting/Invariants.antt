@@ -1,5 +1,5 @@
 use Rattle.std.proofs.Common.{◌≡◌, ◌+◌, ◌*◌, drop}
-use Rattle.cg_builtin.proofs.Fronts.{answer_in_front}
+use Rattle.cg_pmacro_builtin.proofs.Fronts.{answer_in_front}
 use Rattle.cg_pmacro.specs.Splitting.{split_each, split_to}
 use Rattle.cg_pmacro.proofs.tops.+splitting.Given as goal
 

@@ -1,6 +1,6 @@
 use Rattle.std.proofs.Common.{◌≡◌, ◌+◌, ◌*◌, drop}
-use Rattle.cg_builtin.specs.Outcome.{each_joined}
-use Rattle.cg_builtin.proofs.Fronts.{in_front}
+use Rattle.cg_pmacro_builtin.specs.Outcome.{each_joined}
+use Rattle.cg_pmacro_builtin.proofs.Fronts.{in_front}
 use Rattle.cg_pmacro.specs.Tops.{top_to, state}
 use Rattle.cg_pmacro.proofs.tops.+tops.Given as goal
 

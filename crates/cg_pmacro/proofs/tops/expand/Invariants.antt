@@ -1,7 +1,7 @@
 use Rattle.std.proofs.Common.{◌≡◌, [], drop}
-use Rattle.cg_builtin.specs.Outcome.{each_joined}
+use Rattle.cg_pmacro_builtin.specs.Outcome.{each_joined}
 use Rattle.cg_pmacro.specs.Tops.{top_forms, state}
-use Rattle.cg_builtin.proofs.Fronts.{in_front}
+use Rattle.cg_pmacro_builtin.proofs.Fronts.{in_front}
 use Rattle.cg_pmacro.proofs.tops.expand.Given as goal
 
 -- those so far in front of what the rest gives

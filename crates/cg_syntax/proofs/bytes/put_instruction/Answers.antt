@@ -1,7 +1,7 @@
 use Rattle.std.specs.Prelude.{length}
 use Rattle.std.proofs.Common.{get_or, sym, ap, ◌∙◌}
 use Rattle.std.proofs.lemmas.Option.{slice_get_read}
-use Rattle.cg_choosing.proofs.TryingLemmas.{insn_operands, insns_within, emitted_operands}
+use Rattle.cg_syntax_choose.proofs.TryingLemmas.{insn_operands, insns_within, emitted_operands}
 use Rattle.cg_syntax.proofs.bytes.put_instruction.Goals as goal
 
 pub fit-requires-clause-operands : goal.fit-requires-clause-operands

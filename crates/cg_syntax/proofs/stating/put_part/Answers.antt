@@ -1,6 +1,6 @@
 use Rattle.std.specs.Prelude.{length}
 use Rattle.std.proofs.Common.{subst, ap, ◌∙◌}
-use Rattle.cg_choosing.proofs.OrderLemmas.{as_many_known}
+use Rattle.cg_syntax_choose.proofs.OrderLemmas.{as_many_known}
 use Rattle.cg_syntax.proofs.stating.put_part.Goals as goal
 use Rattle.cg_syntax.specs.Laying.{IsWithin}
 

@@ -1,6 +1,0 @@
-use Rattle.std.proofs.Common.{◌≡◌, take}
-use Rattle.cg_builtin.proofs.replacing.copy_of.Given as goal
-
--- the bindings so far
-abbrev pub invariant-loop-binding : goal.invariant-loop-binding
-invariant-loop-binding l = l.copy ≡ take l.binding-index l.table

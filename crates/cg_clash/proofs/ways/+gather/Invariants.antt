@@ -1,4 +1,0 @@
-use Rattle.cg_clash.proofs.ways.+gather.Given as goal
-
-abbrev pub decreases-gather : goal.decreases-gather
-decreases-gather g l = l.free

@@ -1,0 +1,16 @@
+use Rattle.std.proofs.Common.{◌≡◌, map, drop}
+use Rattle.std.specs.List.{flat_map}
+use Rattle.cg_base.specs.Refusing.{first}
+use Rattle.cg_attrs.specs.Clauses.{seen_clause}
+use Rattle.cg_desc_fault_report.specs.Subject.{described_in, machine_in, element_in, insns_in}
+use Rattle.cg_desc_fault_name.specs.E306.{in_clause}
+use Rattle.cg_desc_machine.specs.Seen.{base}
+use Rattle.cg_desc_fault_name.proofs.missing.first_in_clauses.Given as goal
+
+-- the first of what is left is the first of the whole
+abbrev pub invariant-loop-clause : goal.invariant-loop-clause
+invariant-loop-clause l =
+    record {
+      kept : base l.scope ≡ base l.initial.scope;
+      same : first (flat_map (in_clause (described_in l.of) (base l.initial.scope) (machine_in l.of) l.of.number (insns_in l.of) (element_in l.of)) (map seen_clause (drop l.clause-index l.clauses))) ≡ first (flat_map (in_clause (described_in l.of) (base l.initial.scope) (machine_in l.of) l.of.number (insns_in l.of) (element_in l.of)) (map seen_clause l.clauses));
+    }

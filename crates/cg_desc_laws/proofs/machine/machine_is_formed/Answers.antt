@@ -1,0 +1,9 @@
+use Rattle.cg_desc_data.specs.Seen.{seen}
+use Rattle.cg_desc_scope.specs.Seen.{seen_described}
+use Rattle.cg_desc_laws.proofs.WholeWhole.{whole_of}
+use Rattle.cg_desc_laws.proofs.machine.machine_is_formed.Goals as goal
+
+pub returns : goal.returns
+returns c =
+    whole_of (seen_described c.args.described.now) (seen c.args.selection.now) c.args.scope.now c.args.machine.now c.args.tops.now
+    c.requires.described c.requires.alone c.requires.elements c.requires.names c.requires.unsaid c.requires.machine

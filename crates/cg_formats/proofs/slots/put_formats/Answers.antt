@@ -1,5 +1,0 @@
-use Rattle.cg_formats.proofs.Putting.{put_next}
-use Rattle.cg_formats.proofs.slots.put_formats.Goals as goal
-
-pub loop-written-preserved : goal.loop-written-preserved
-loop-written-preserved c = put_next _ _ _ _ _ _ _ c.loop-written-test.true c.written-item.is c.in_ok-put_in_format.ensures c.loop-written.invariant

@@ -1,5 +1,0 @@
-use Rattle.cg_formats.proofs.Putting.{put_next}
-use Rattle.cg_formats.proofs.slots.put_syntaxes.Goals as goal
-
-pub loop-written-preserved : goal.loop-written-preserved
-loop-written-preserved c = put_next _ _ _ _ _ _ _ c.loop-written-test.true c.written-item.is c.in_ok-put_in_syntax.ensures c.loop-written.invariant

@@ -1,5 +1,0 @@
-use Rattle.cg_lawful.proofs.UnrefusedJoined.{unrefused}
-use Rattle.cg_lawful.proofs.unrefused.no_element_is_refused.Goals as goal
-
-pub returns : goal.returns
-returns c = unrefused c.args.machine.now c.requires.within c.requires.numbered c.requires.clear

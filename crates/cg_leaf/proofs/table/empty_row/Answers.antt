@@ -1,5 +1,0 @@
-use Rattle.cg_leaf.proofs.Tables.{is_empty}
-use Rattle.cg_leaf.proofs.table.empty_row.Goals as goal
-
-pub returns : goal.returns
-returns c = is_empty 256

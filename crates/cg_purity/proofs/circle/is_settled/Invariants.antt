@@ -1,5 +1,0 @@
-use Rattle.cg_purity.specs.Tables.{AreAlike}
-use Rattle.cg_purity.proofs.circle.is_settled.Given as goal
-
-abbrev pub invariant-loop-hardware : goal.invariant-loop-hardware
-invariant-loop-hardware l = AreAlike l.hardware l.table l.next

@@ -1,6 +1,0 @@
-use Rattle.cg_purity.specs.Tables.{seen_rule}
-use Rattle.cg_purity.proofs.Leading.{RowTo}
-use Rattle.cg_purity.proofs.circle.row.Given as goal
-
-abbrev pub invariant-loop-hardware : goal.invariant-loop-hardware
-invariant-loop-hardware l = RowTo l.machine l.table (seen_rule l.target) l.sets l.row.items l.hardware

@@ -1,8 +1,0 @@
-use Rattle.std.proofs.Common.{◌≡◌, ◌++◌, drop}
-use Rattle.std.specs.List.{flat_map}
-use Rattle.cg_references.specs.References.{model}
-use Rattle.cg_references.proofs.references.put_models.Given as goal
-
--- the names so far, with those of what is left, are those of the whole
-abbrev pub invariant-loop-form : goal.invariant-loop-form
-invariant-loop-form l = l.list ++ flat_map model (drop l.form-index l.forms) ≡ l.initial.list ++ flat_map model l.forms

@@ -1,6 +1,0 @@
-use Rattle.std.proofs.Common.{◌≡◌, ◌++◌, drop}
-use Rattle.cg_said.proofs.saying.put_copies.Given as goal
-
--- what stands, with what is left, is the whole
-abbrev pub invariant-loop-item : goal.invariant-loop-item
-invariant-loop-item g l = l.list ++ drop l.item-index l.items ≡ l.initial.list ++ l.items

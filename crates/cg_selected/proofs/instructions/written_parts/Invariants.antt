@@ -1,9 +1,0 @@
-use Rattle.std.proofs.Common.{◌≡◌, ◌++◌, map, drop}
-use Rattle.cg_described.specs.Seen.{seen_described}
-use Rattle.cg_selected.specs.Instructions.{part_in}
-use Rattle.cg_selected.proofs.instructions.written_parts.Given as goal
-
--- what stands, with what is left, is the whole
-abbrev pub invariant-loop-part : goal.invariant-loop-part
-invariant-loop-part l =
-    l.list ++ map (part_in (seen_described l.described)) (drop l.part-index l.parts) ≡ map (part_in (seen_described l.described)) l.parts

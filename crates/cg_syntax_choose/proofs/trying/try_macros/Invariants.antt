@@ -1,0 +1,10 @@
+use Rattle.std.specs.Option.{option_map}
+use Rattle.cg_syntax_choose.proofs.TryingLemmas.{MacrosLeft}
+use Rattle.cg_syntax_choose.proofs.trying.try_macros.Given as goal
+use Rattle.cg_syntax_choose.specs.Trying.{trying}
+use Rattle.cg_syntax_fit.specs.Misfits.{said}
+use Rattle.cg_model_source.specs.Choosing.{macros_splitting}
+
+-- what came so far, with what is left, is what comes of the whole
+abbrev pub invariant-loop-k : goal.invariant-loop-k
+invariant-loop-k l = MacrosLeft l.machine l.pc l.index.keywords l.text l.k l.first (trying l.machine l.pc (option_map (said l.machine) l.initial.first) (macros_splitting l.machine l.index.keywords l.text l.machine.macros))

@@ -1,5 +1,0 @@
-use Rattle.tests_clash.proofs.Tables.{SoFar}
-use Rattle.tests_clash.proofs.table.search.Given as goal
-
-abbrev pub invariant-loop-k : goal.invariant-loop-k
-invariant-loop-k l = SoFar l.judge.asked l.patterns l.k
