@@ -4,8 +4,8 @@ ghost use Rattle.cg_code_mask.specs.Constants.{AreFitting};
 ghost use Rattle.cg_ambig.specs.Patterns.{pattern, HasPatterns};
 
 use cg_ambig_pattern::Pattern;
-use cg_model::{Insn, Machine};
 use cg_code_mask::{constants_of, named};
+use cg_model::{Insn, Machine};
 
 /// What an instruction says of all bits.
 pub fn pattern_of(machine: &Machine, insn: &Insn) -> Pattern

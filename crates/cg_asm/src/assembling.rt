@@ -11,11 +11,11 @@ ghost use Rattle.cg_syntax.specs.Laying.{HasBundleBit};
 
 use crate::faults::size_fault;
 use crate::placing::lines_laid;
-use cg_base::{Refusal, Stop, Text};
-use cg_syntax_choose::Index;
 use cg_asm_labels::lines_put;
-use cg_syntax_lines::line_texts;
+use cg_base::{Refusal, Stop, Text};
 use cg_model::Machine;
+use cg_syntax_choose::Index;
+use cg_syntax_lines::line_texts;
 use std::alloc::Global;
 
 /// Why a source is refused. docs/ASSEMBLY.md has a row for each number.

@@ -11,13 +11,13 @@ ghost use Rattle.cg_model_source.specs.E607.{too_large};
 ghost use Rattle.cg_syntax.specs.Faulting as telling;
 ghost use Rattle.cg_syntax.specs.Telling.{first_refused};
 
-use cg_base::{NoMemory, Refusal, Text, decimal, hex};
 use cg_asm_directives::{Content, Order, Width, unfit_in, unfit_refusal};
 use cg_asm_labels::Labels;
+use cg_base::{NoMemory, Refusal, Text, decimal, hex, refusals};
 use cg_model::Machine;
 use cg_model_source::Sum;
-use cg_syntax_spelling::Keywords;
 use cg_syntax::{Part, first_refused, has_empty, said_alone};
+use cg_syntax_spelling::Keywords;
 use std::alloc::Global;
 
 /// Where a line stands.
@@ -59,7 +59,7 @@ fn unfit_data(alloc: Global, order: &Order) -> Result<Option<Refusal>, NoMemory>
 {
     if let Order::Data { name, width, sums } = order {
         if let Some(value) = first_unfit(*width, sums.as_slice()) {
-            return Ok(Some(unfit_refusal(alloc, 602, name, value)?));
+            return Ok(Some(unfit_refusal(alloc, refusals::OUT_OF_RANGE, name, value)?));
         }
     }
     Ok(None)
@@ -69,10 +69,10 @@ fn unfit_data(alloc: Global, order: &Order) -> Result<Option<Refusal>, NoMemory>
 fn unfit_texts(parts: &[Part]) -> Result<Option<Refusal>, NoMemory>
     ensures { IfOk result (λ refusal. refusal ≡ option_or (first_refused 601 parts.now) (first_refused 602 parts.now)) }
 {
-    if let Some(refusal) = first_refused(601, parts) {
+    if let Some(refusal) = first_refused(refusals::NO_STATEMENT, parts) {
         return Ok(Some(refusal.clone()?));
     }
-    if let Some(refusal) = first_refused(602, parts) {
+    if let Some(refusal) = first_refused(refusals::OUT_OF_RANGE, parts) {
         return Ok(Some(refusal.clone()?));
     }
     Ok(None)
@@ -102,10 +102,10 @@ fn label_fault(
     };
     let text = Text::of(alloc, name)?;
     if labels.address(&text).is_some() {
-        return Ok(Some(said_alone(alloc, 603, name)?));
+        return Ok(Some(said_alone(alloc, refusals::LABEL_TAKEN, name)?));
     }
     if keywords.has(alloc, name)? {
-        return Ok(Some(said_alone(alloc, 603, name)?));
+        return Ok(Some(said_alone(alloc, refusals::LABEL_TAKEN, name)?));
     }
     Ok(None)
 }
@@ -121,7 +121,7 @@ fn origin_fault(
     if let Content::Directive(Order::Origin(number)) = content {
         if (*number as u128) < address {
             let text = hex(alloc, *number)?;
-            return Ok(Some(said_alone(alloc, 606, text.as_slice())?));
+            return Ok(Some(said_alone(alloc, refusals::ORG_BACK, text.as_slice())?));
         }
     }
     Ok(None)
@@ -138,7 +138,7 @@ pub(crate) fn size_fault(
     ensures { IfOk result (λ refusal. refusal ≡ told_first (too_large machine.now.word_bits base end)) }
 {
     if end.saturating_sub(base as u128) > 1 << 20 || end > 1 << machine.word_bits {
-        return Ok(Some(said_alone(alloc, 607, b"image")?));
+        return Ok(Some(said_alone(alloc, refusals::LARGE_IMAGE, b"image")?));
     }
     Ok(None)
 }
@@ -152,11 +152,11 @@ fn bundle_fault(
     ensures { IfOk result (λ refusal. refusal ≡ option_or (telling.where_empty parts.now) (telling.where_wide machine.now.width parts.now)) }
 {
     if has_empty(parts) {
-        return Ok(Some(said_alone(alloc, 608, b"line")?));
+        return Ok(Some(said_alone(alloc, refusals::STRANGE_LINE, b"line")?));
     }
     if parts.len() > machine.width as usize {
         let width = decimal(alloc, machine.width as i128)?;
-        return Ok(Some(said_alone(alloc, 609, width.as_slice())?));
+        return Ok(Some(said_alone(alloc, refusals::WIDE_BUNDLE, width.as_slice())?));
     }
     Ok(None)
 }
@@ -171,7 +171,7 @@ fn form_fault(
 {
     match content {
         Content::Directive(Order::Malformed(name)) => {
-            Ok(Some(said_alone(alloc, 608, name.as_slice())?))
+            Ok(Some(said_alone(alloc, refusals::STRANGE_LINE, name.as_slice())?))
         }
         Content::Directive(_) => Ok(None),
         Content::Bundle(parts) => Ok(bundle_fault(alloc, machine, parts.as_slice())?),

@@ -9,13 +9,13 @@ ghost use Rattle.cg_syntax_lines.specs.Seen.{seen_line};
 ghost use Rattle.cg_model.specs.Sound.{IsSound};
 
 use crate::faults::{Place, content_fault};
-use cg_base::{List, Stop};
-use cg_syntax_choose::Index;
 use cg_asm_directives::{content_of, content_size};
 use cg_asm_labels::{Labels, Laid, on_line};
-use cg_syntax_lines::{Line, is_readable, read_line};
+use cg_base::{List, Stop, refusals};
 use cg_model::Machine;
 use cg_syntax::said_alone;
+use cg_syntax_choose::Index;
+use cg_syntax_lines::{Line, is_readable, read_line};
 use std::alloc::Global;
 
 /// The most bytes that a line may have.
@@ -90,7 +90,7 @@ fn lay_line(
     ensures low { OnOk result (layout.new.address ≤ 2 ^ 64) }
 {
     if !is_readable(LONGEST, text) {
-        let refusal = said_alone(alloc, 608, b"line")?;
+        let refusal = said_alone(alloc, refusals::STRANGE_LINE, b"line")?;
         return Err(Stop::Refused(on_line(number, refusal)));
     }
     place_line(alloc, machine, index, base, number, read_line(text), layout)

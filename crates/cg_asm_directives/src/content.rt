@@ -9,10 +9,10 @@ ghost use Rattle.cg_model_source.specs.Sourcing as sourcing;
 
 use crate::order::{Order, Width, order_of};
 use cg_base::{List, NoMemory};
-use cg_syntax_choose::Index;
-use cg_syntax_lines::bundle_texts;
 use cg_model::Machine;
 use cg_syntax::{Part, part_size, parts_at};
+use cg_syntax_choose::Index;
+use cg_syntax_lines::bundle_texts;
 use std::alloc::Global;
 
 /// What a line lays down.

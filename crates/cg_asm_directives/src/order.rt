@@ -8,8 +8,8 @@ ghost use Rattle.cg_base.specs.Texts.{seen_text};
 ghost use Rattle.cg_model_source.specs.Sourcing as spec;
 
 use cg_base::{List, NoMemory, Text, read_number};
-use cg_syntax_lines::comma_texts;
 use cg_model_source::Sum;
+use cg_syntax_lines::comma_texts;
 use cg_syntax_spelling::{Keywords, sum_of};
 use std::alloc::Global;
 

@@ -14,13 +14,13 @@ ghost use Rattle.cg_syntax.specs.Faulting as telling;
 ghost use Rattle.cg_syntax.specs.Laying.{HasBundleBit, IsWithin, AreWithin};
 
 use crate::labels::Labels;
-use cg_base::{NoMemory, Refusal, Stop, Text, put_number};
-use cg_syntax_choose::Index;
 use cg_asm_directives::{Content, Order, Width, order_size, unfit_in, unfit_refusal, width_bytes};
-use cg_syntax_fit::{misfit_refusal, wrapped};
+use cg_base::{NoMemory, Refusal, Stop, Text, put_number, refusals};
 use cg_model::Machine;
 use cg_model_source::Sum;
 use cg_syntax::{Part, put_instruction, said_alone};
+use cg_syntax_choose::Index;
+use cg_syntax_fit::{misfit_refusal, wrapped};
 use std::alloc::Global;
 
 /// A line that has its place.
@@ -159,7 +159,12 @@ fn put_order(
     match order {
         Order::Data { name, width, sums } => {
             match put_data(machine, labels, *width, sums.as_slice(), out)? {
-                Some(value) => Ok(Some(unfit_refusal(alloc, 605, name, value)?)),
+                Some(value) => Ok(Some(unfit_refusal(
+                    alloc,
+                    refusals::LABEL_OUT_OF_RANGE,
+                    name,
+                    value,
+                )?)),
                 None => Ok(None),
             }
         }
@@ -198,7 +203,12 @@ fn put_part(
     let numbers = labels.numbers_with(alloc, &choice.sums)?;
     let numbers = numbers.as_slice();
     match put_instruction(alloc, machine, index, choice, numbers, *address, more, out)? {
-        Some(misfit) => Ok(Some(misfit_refusal(alloc, machine, 605, misfit)?)),
+        Some(misfit) => Ok(Some(misfit_refusal(
+            alloc,
+            machine,
+            refusals::LABEL_OUT_OF_RANGE,
+            misfit,
+        )?)),
         None => Ok(None),
     }
 }
@@ -270,7 +280,7 @@ fn put_line(
     ensures { Gives (spec.line_put machine.now labels.now laid.now out.old.items) (leaving out.new.items result) }
 {
     if let Some(label) = undefined_in(labels, &laid.content) {
-        let refusal = said_alone(alloc, 604, label.as_slice())?;
+        let refusal = said_alone(alloc, refusals::NO_LABEL, label.as_slice())?;
         return Err(Stop::Refused(on_line(laid.line, refusal)));
     }
     match put_content(alloc, machine, index, labels, laid, out)? {

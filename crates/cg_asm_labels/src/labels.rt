@@ -11,9 +11,9 @@ ghost use Rattle.cg_model_source.specs.E605.{number_with, numbers_with};
 ghost use Rattle.cg_syntax.specs.Faulting.{said_alone};
 
 use cg_base::{NoMemory, Text};
+use cg_model_source::{Sum, Term};
 use cg_syntax_choose::sum_there;
 use cg_syntax_fit::Sums;
-use cg_model_source::{Sum, Term};
 use indexmap::IndexMap;
 use std::alloc::Global;
 use std::marker::Model;

@@ -6,7 +6,9 @@ ghost use Rattle.cg_base.specs.Texts.{same_text};
 ghost use Rattle.cg_base.specs.Refusing.{refusal_at, least};
 ghost use Rattle.cg_base.specs.Answering.{Stops, GivesForm};
 
-use cg_base::{Fault, Form, List, NoMemory, Stop, Text, are_symbols, is_among, only, stop_at};
+use cg_base::{
+    Fault, Form, List, NoMemory, Stop, Text, are_symbols, is_among, only, refusals, stop_at,
+};
 use std::alloc::Global;
 
 /// An attribute of a form (docs/LANGUAGE.md, "Attributes").
@@ -255,7 +257,7 @@ fn no_attrs(alloc: Global) -> Stop
     ensures { Stops (λ refusal. refusal ≡ refusal_at 0 0 (304, codes "attrs")) result }
 {
     let fault = Fault {
-        number: 304,
+        number: refusals::WRONG_KIND,
         text: b"attrs",
     };
     stop_at(alloc, 0, 0, fault)

@@ -11,7 +11,7 @@ ghost use Rattle.cg_attrs.specs.Attrs.{wrong_attrs};
 ghost use Rattle.cg_attrs.specs.Clauses.{seen, seen_clause, seen_role, row_named, holds_rule, is_besides, counts_absent, name_by, counts_as, stands_as, stands_for, standing, content_of, content_at, is_repeated, may_stand, misplaced_at, misplaced_among, misplaced, is_wanted, absent, wrong_standing, wrong, left_out_standing, left_out, clause_faults};
 
 use crate::attr::are_attrs;
-use cg_base::{Fault, Form, only_flag};
+use cg_base::{Fault, Form, only_flag, refusals};
 
 /// A clause as it stands in a form.
 #[derive(Clone, Copy, Debug)]
@@ -385,16 +385,28 @@ pub(crate) fn clause_fault<'a, C: ContentKind>(
     ensures { option_map seen_fault result ≡ least (clause_faults C.wrong C.left_out (map seen rows.now) elements.now) }
 {
     if let Some(text) = first_misplaced(rows, elements) {
-        return Some(Fault { number: 302, text });
+        return Some(Fault {
+            number: refusals::STRANGE_CLAUSE,
+            text,
+        });
     }
     if let Some(text) = first_absent(rows, elements) {
-        return Some(Fault { number: 303, text });
+        return Some(Fault {
+            number: refusals::ABSENT,
+            text,
+        });
     }
     if let Some(text) = first_wrong(rows, elements) {
-        return Some(Fault { number: 304, text });
+        return Some(Fault {
+            number: refusals::WRONG_KIND,
+            text,
+        });
     }
     if let Some(text) = first_left_out(rows, elements) {
-        return Some(Fault { number: 307, text });
+        return Some(Fault {
+            number: refusals::LEFT_OUT,
+            text,
+        });
     }
     None
 }

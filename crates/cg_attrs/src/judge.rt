@@ -7,7 +7,7 @@ ghost use Rattle.cg_attrs.specs.Clauses.{seen};
 ghost use Rattle.cg_attrs.specs.Judging.{seen_named, kind_among, seen_table, heading, extra, missing, wrong_arguments, argument_faults, table_faults, own_faults, recognized_in, recognized, Judged};
 
 use crate::clauses::{Clause, ContentKind, Row, clause_fault};
-use cg_base::{Fault, Form};
+use cg_base::{Fault, Form, refusals};
 
 /// What may stand behind the head of a form.
 #[derive(Drop)]
@@ -139,13 +139,22 @@ fn argument_fault<'a, C: ContentKind>(rows: &[Row<C>], arguments: &'a [Form]) ->
     ensures { option_map seen_fault result ≡ least (argument_faults C.wrong (map seen rows.now) arguments.now) }
 {
     if let Some(text) = first_extra(rows, arguments) {
-        return Some(Fault { number: 302, text });
+        return Some(Fault {
+            number: refusals::STRANGE_CLAUSE,
+            text,
+        });
     }
     if let Some(text) = first_missing(rows, arguments) {
-        return Some(Fault { number: 303, text });
+        return Some(Fault {
+            number: refusals::ABSENT,
+            text,
+        });
     }
     if let Some(text) = first_wrong_argument(rows, arguments) {
-        return Some(Fault { number: 304, text });
+        return Some(Fault {
+            number: refusals::WRONG_KIND,
+            text,
+        });
     }
     None
 }
@@ -169,7 +178,7 @@ fn judged_headed<'a, K: FormKind>(
 {
     match head {
         b"if" => Err(Fault {
-            number: 307,
+            number: refusals::LEFT_OUT,
             text: b"if",
         }),
         _ => match K::named(head) {
@@ -178,7 +187,7 @@ fn judged_headed<'a, K: FormKind>(
                 None => Ok((kind, elements)),
             },
             None => Err(Fault {
-                number: 301,
+                number: refusals::NO_FORM,
                 text: head,
             }),
         },
@@ -193,7 +202,7 @@ pub fn judged<K: FormKind>(form: &Form) -> Result<(K, &[Form]), Fault<'_>>
     match form.headed() {
         Some((head, elements)) => judged_headed(head.as_slice(), elements),
         None => Err(Fault {
-            number: 301,
+            number: refusals::NO_FORM,
             text: b"form",
         }),
     }

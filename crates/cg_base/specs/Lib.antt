@@ -2,6 +2,7 @@ pub mod formers
 pub mod Modes
 pub mod Operations
 pub mod Bytes
+pub mod Fronts
 pub mod Numerals
 pub mod Grammar
 pub mod Faults

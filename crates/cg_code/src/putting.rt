@@ -13,9 +13,9 @@ ghost use Rattle.cg_model.specs.Sound.{IsSound, IsRule, SoundField, SoundMulti, 
 use crate::extracting::slot_mode;
 use crate::lookups::{field_at, multi_at, operand_at};
 use cg_base::{Mode, convert, number_at, put_number};
+use cg_code_mask::lies_near;
 use cg_model::{Field, Insn, Machine, Multi, Operand, Part, Rtl, Source};
 use cg_model_pure::pure_eval;
-use cg_code_mask::lies_near;
 
 /// A word in which a field's bits are `number`. All other bits stay.
 #[tactic(auto, using(crate::proofs::Words::words))]

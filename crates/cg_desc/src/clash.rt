@@ -6,8 +6,8 @@ ghost use Rattle.cg_desc_scope.specs.Seen.{seen_described};
 ghost use Rattle.cg_desc.specs.Answering as spec;
 ghost use Rattle.cg_desc_insns.specs.Named.{numbered};
 
-use cg_desc_check::clash_refusal;
 use cg_base::{NoMemory, Refusal, Top};
+use cg_desc_check::clash_refusal;
 use cg_desc_scope::Described;
 use cg_model::{Clash, Machine};
 use std::alloc::Global;

@@ -20,13 +20,13 @@ use crate::clash::clash_of;
 use cg_ambig::first_clash;
 use cg_base::{Stop, Top};
 use cg_desc_data::Selection;
-use cg_desc_scope::{Described, describe, scope_of};
 use cg_desc_fault_least::first_by_elements;
 use cg_desc_laws::machine_is_faultless;
-use cg_model::Machine;
-use cg_rtl_resolve::Scope;
 use cg_desc_machine::machine_of;
+use cg_desc_scope::{Described, describe, scope_of};
+use cg_model::Machine;
 use cg_model_laws::faultless_is_sound;
+use cg_rtl_resolve::Scope;
 use std::alloc::Global;
 
 /// What is answered of a description of which nothing but a clash may be at fault, and whose machine is

@@ -10,7 +10,7 @@ ghost use Rattle.cg_model_faults.specs.Accepted.{IsAccepted};
 
 use crate::judging::selected_machine;
 use cg_attrs::MachForm;
-use cg_base::{Fault, Forms, Stop, Text, Top, stop_at};
+use cg_base::{Fault, Forms, Stop, Text, Top, refusals, stop_at};
 use cg_desc_data::Selection;
 use cg_desc_elements::{Element, elements, selected_arch, selected_isa, selected_mach};
 use cg_desc_names::Names;
@@ -62,7 +62,7 @@ fn machine_among(
         Some((number, mach)) => machine_at(alloc, elements, tops, name, number, mach),
         None => {
             let fault = Fault {
-                number: 318,
+                number: refusals::NO_MACHINE,
                 text: name.as_slice(),
             };
             Err(stop_at(alloc, 0, 0, fault))

@@ -6,8 +6,8 @@ ghost use Rattle.cg_model_faults.specs.Refusing as spec;
 use crate::clash::clash_refusal;
 use cg_ambig::first_clash;
 use cg_base::Stop;
-use cg_model::Machine;
 use cg_desc_check_machine::first_refusal;
+use cg_model::Machine;
 use cg_model_laws::faultless_is_sound;
 use std::alloc::Global;
 

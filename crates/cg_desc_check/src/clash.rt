@@ -2,9 +2,9 @@ ghost use Rattle.std.specs.Prelude.{◌≡◌, ◌<◌, take, IfOk};
 ghost use Rattle.std.specs.Char.{digit_char};
 ghost use Rattle.cg_model_faults.specs.Refusing as spec;
 
-use cg_base::{NoMemory, Refusal, Text};
-use cg_model::{Clash, Machine};
+use cg_base::{NoMemory, Refusal, Text, refusals};
 use cg_desc_check_machine::spaced;
+use cg_model::{Clash, Machine};
 use std::alloc::Global;
 
 /// The name of the instruction of a number, and no bytes where there is none.
@@ -51,7 +51,7 @@ pub fn clash_refusal(alloc: Global, machine: &Machine, clash: &Clash) -> Result<
     let first = insn_name(machine, usize::from(clash.first));
     let second = insn_name(machine, usize::from(clash.second));
     Ok(Refusal {
-        number: 501,
+        number: refusals::CLASH,
         file: 0,
         line: 0,
         text: Text::of(alloc, first)?,

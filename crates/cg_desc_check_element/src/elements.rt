@@ -13,15 +13,15 @@ use crate::expressions::{
 };
 use crate::texts::{first_long_literal, first_long_of_all, first_long_text, first_long_word};
 use cg_base::NoMemory;
-use cg_desc_check_rtl::{first_circular, Standing, first_no_register, first_unnamed};
-use cg_model::{Field, Hardware, Insn, Machine, MacroInsn, Multi, Operand, Part, Rtl};
-use cg_model_faults::{MachineFault, Purpose};
 use cg_desc_check_format::{
     first_bundled, first_long_insn, first_long_syntax, first_misplaced, first_no_bundle,
     first_no_bundle_bit, first_no_emitted, first_no_sub, first_of_too_many_insns, first_overlap,
     first_passing, first_shapeless, first_undelimited, first_unfit, first_ungiven, first_unmatched,
     first_unsourced, first_unused, first_written_twice,
 };
+use cg_desc_check_rtl::{Standing, first_circular, first_no_register, first_unnamed};
+use cg_model::{Field, Hardware, Insn, Machine, MacroInsn, Multi, Operand, Part, Rtl};
+use cg_model_faults::{MachineFault, Purpose};
 use std::alloc::Global;
 
 /// The first fault of the machine's own name and bundle field.

@@ -4,9 +4,9 @@ ghost use Rattle.cg_model_faults.specs.Elements as spec;
 ghost use Rattle.cg_desc_check_rtl.specs.Named.{nameable};
 
 use cg_base::NoMemory;
+use cg_desc_check_rtl::{Standing, first_impure, first_no_cell, first_stray, first_unnamed};
 use cg_model::{Machine, Rtl};
 use cg_model_faults::{MachineFault, Purpose};
-use cg_desc_check_rtl::{Standing, first_impure, first_no_cell, first_stray, first_unnamed};
 
 /// What a rule finds, or want of memory.
 pub(crate) type Found = Result<Option<MachineFault>, NoMemory>;

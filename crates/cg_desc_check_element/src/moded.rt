@@ -4,11 +4,11 @@ ghost use Rattle.cg_model_faults.specs.Elements as spec;
 ghost use Rattle.cg_model_faults.specs.Judging as judging;
 ghost use Rattle.cg_desc_check_element.specs.Wanting.{judged, judged_where, result_by, insert_wanted};
 
-use cg_base::{Mode, bits};
+use cg_base::{Mode, bits, refusals};
+use cg_desc_check_rtl::{first_other_mode, first_outside};
 use cg_model::{Field, Hardware, Insn, Machine, ModeFault, Multi, Rtl};
 use cg_model_faults::{MachineFault, Purpose, Said};
 use cg_modes::mode_of;
-use cg_desc_check_rtl::{first_other_mode, first_outside};
 
 /// What an expression is for, the mode that is wanted of it, and that of its own value.
 #[derive(Clone, Copy)]
@@ -67,7 +67,7 @@ fn disagrees(want: Option<Mode>, mode: Mode) -> Option<MachineFault>
         return None;
     }
     Some(MachineFault {
-        number: 401,
+        number: refusals::MODES_DIFFER,
         place: 0,
         text: Said::Own,
         other: Said::Modes(want, mode),
@@ -83,7 +83,7 @@ fn result_fault(wanted: Wanted, mode: Mode) -> Option<MachineFault>
     }
     if bits(mode) == 0 {
         return Some(MachineFault {
-            number: 404,
+            number: refusals::NO_VALUE,
             place: 0,
             text: Said::Own,
             other: Said::Nothing,

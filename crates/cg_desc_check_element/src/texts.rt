@@ -3,9 +3,9 @@ ghost use Rattle.cg_base.specs.Refusing.{first};
 ghost use Rattle.cg_model_faults.specs.E308 as spec;
 
 use cg_base::Text;
+use cg_desc_check_format::first_passing;
 use cg_model::{Keyword, NamedValue, Piece};
 use cg_model_faults::MachineFault;
-use cg_desc_check_format::first_passing;
 
 /// E308: over 4,194,304 bytes of a text.
 pub fn first_long_text(text: &Text) -> Option<MachineFault>

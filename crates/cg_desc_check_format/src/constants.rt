@@ -2,6 +2,7 @@ ghost use Rattle.std.specs.Prelude.{◌≡◌, ◌<◌, ◌^◌, nat_lt};
 ghost use Rattle.cg_base.specs.Refusing.{first};
 ghost use Rattle.cg_model_faults.specs.E311.{unfit_at, unfit_constants};
 
+use cg_base::refusals;
 use cg_model::{Machine, Part};
 use cg_model_faults::{MachineFault, Said};
 
@@ -28,7 +29,7 @@ fn unfit(machine: &Machine, place: usize, part: Part) -> Option<MachineFault>
         return None;
     }
     Some(MachineFault {
-        number: 311,
+        number: refusals::WIDE_CONSTANT,
         place,
         text: Said::Field(k),
         other: Said::Count(value),

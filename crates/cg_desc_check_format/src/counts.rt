@@ -6,6 +6,7 @@ ghost use Rattle.cg_model_faults.specs.E317.{too_many_insns};
 
 use crate::numbers::slot_count;
 use crate::overlap::fields_of_part;
+use cg_base::refusals;
 use cg_model::{Insn, Machine, Part};
 use cg_model_faults::{MachineFault, Said};
 
@@ -15,7 +16,7 @@ pub fn first_passing(limit: u64, before: u64, now: u64) -> Option<MachineFault>
 {
     if before <= limit && limit < now {
         return Some(MachineFault {
-            number: 308,
+            number: refusals::COUNT_PASSED,
             place: 0,
             text: Said::Count(limit),
             other: Said::Count(now),
@@ -30,7 +31,7 @@ pub fn first_of_too_many_insns(before: usize) -> Option<MachineFault>
 {
     if before == 4096 {
         return Some(MachineFault {
-            number: 317,
+            number: refusals::MANY_INSTRUCTIONS,
             place: 0,
             text: Said::Count(4096),
             other: Said::Nothing,

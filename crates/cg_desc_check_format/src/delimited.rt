@@ -3,7 +3,7 @@ ghost use Rattle.cg_base.specs.Refusing.{first};
 ghost use Rattle.cg_base.specs.Characters.{is_in_word, is_in_sum};
 ghost use Rattle.cg_model_faults.specs.E312 as spec;
 
-use cg_base::{is_in_word, is_in_sum};
+use cg_base::{is_in_sum, is_in_word, refusals};
 use cg_model::{Machine, Operand, Piece};
 use cg_model_faults::{MachineFault, Said};
 
@@ -59,7 +59,7 @@ fn undelimited_at(
         return None;
     }
     Some(MachineFault {
-        number: 312,
+        number: refusals::UNDELIMITED_SLOT,
         place,
         text: Said::Own,
         other: Said::Operand(k),

@@ -3,7 +3,7 @@ ghost use Rattle.cg_base.specs.Refusing.{first};
 ghost use Rattle.cg_model_faults.specs.E309.{has_place, misplaced};
 ghost use Rattle.cg_model_faults.specs.E316.{is_bundle_bit, no_bundle_bit};
 
-use cg_base::bits;
+use cg_base::{bits, refusals};
 use cg_model::{Field, Machine};
 use cg_model_faults::{MachineFault, Said};
 
@@ -23,7 +23,7 @@ pub fn first_misplaced(field: &Field) -> Option<MachineFault>
         return None;
     }
     Some(MachineFault {
-        number: 309,
+        number: refusals::MISPLACED_FIELD,
         place: 0,
         text: Said::Own,
         other: Said::Nothing,
@@ -48,7 +48,7 @@ pub fn first_no_bundle_bit(machine: &Machine) -> Option<MachineFault>
         return None;
     }
     Some(MachineFault {
-        number: 316,
+        number: refusals::BUNDLE_FIELD,
         place: 0,
         text: Said::Field(k),
         other: Said::Nothing,

@@ -3,6 +3,7 @@ ghost use Rattle.cg_base.specs.Refusing.{first};
 ghost use Rattle.cg_model_faults.specs.E306 as spec;
 ghost use Rattle.cg_model_faults.specs.E313.{slot_operands};
 
+use cg_base::refusals;
 use cg_model::{Given, Machine, MacroInsn, Operand, Part, Piece, Source};
 use cg_model_faults::{MachineFault, Said};
 
@@ -14,7 +15,7 @@ fn beyond(count: usize, place: usize, number: usize) -> Option<MachineFault>
         return None;
     }
     Some(MachineFault {
-        number: 306,
+        number: refusals::UNDEFINED_NAME,
         place,
         text: Said::Count(number as u64),
         other: Said::Nothing,

@@ -6,9 +6,10 @@ ghost use Rattle.cg_model_faults.specs.E310 as spec;
 ghost use Rattle.cg_model_faults.specs.E316.{bundled_from, bundled};
 ghost use Rattle.cg_desc_check_format.specs.Two.{seen_two};
 
+use cg_base::refusals;
+use cg_code_mask::cover;
 use cg_model::{Field, Machine, Part, Source};
 use cg_model_faults::{MachineFault, Said};
-use cg_code_mask::cover;
 use std::slice::from_ref;
 
 /// Whether a field has its place in an instruction.
@@ -125,7 +126,7 @@ fn overlap_with(
     for part in behind {
         if let Some(two) = first_two(machine, fields, fields_of_part(machine, part)) {
             return Some(MachineFault {
-                number: 310,
+                number: refusals::OVERLAP,
                 place,
                 text: Said::Own,
                 other: Said::Fields(two.first as usize, two.second as usize),
@@ -158,7 +159,7 @@ fn bundled(machine: &Machine, k: u16, parts: &[Part]) -> Option<MachineFault>
     for place in 0..parts.len() {
         if first_meeting(machine, bits, fields_of_part(machine, &parts[place])).is_some() {
             return Some(MachineFault {
-                number: 316,
+                number: refusals::BUNDLE_FIELD,
                 place,
                 text: Said::Field(k as usize),
                 other: Said::Own,

@@ -4,6 +4,7 @@ ghost use Rattle.cg_model_faults.specs.E313 as spec;
 ghost use Rattle.cg_model_faults.specs.Finding.{at_place, stands_in};
 ghost use Rattle.cg_model_faults.specs.declared.fault.Said.TheVariants.{Own};
 
+use cg_base::refusals;
 use cg_model::{Given, Piece};
 use cg_model_faults::{MachineFault, Said};
 
@@ -12,7 +13,7 @@ fn fault(place: usize, other: Said) -> MachineFault
     ensures { result ≡ at_place 313 place Own other }
 {
     MachineFault {
-        number: 313,
+        number: refusals::SLOTS_DIFFER,
         place,
         text: Said::Own,
         other,

@@ -6,6 +6,7 @@ ghost use Rattle.cg_model_faults.specs.Finding.{at_place};
 ghost use Rattle.cg_model_faults.specs.declared.fault.Said.TheVariants.{Nothing};
 
 use crate::walk::{NodeRule, first_in};
+use cg_base::refusals;
 use cg_model::{Hardware, HwKind, Machine, Op, Rtl};
 use cg_model_faults::{MachineFault, Said};
 
@@ -14,7 +15,7 @@ fn fault(text: Said) -> MachineFault
     ensures { result ≡ at_place 304 0 text Nothing }
 {
     MachineFault {
-        number: 304,
+        number: refusals::WRONG_KIND,
         place: 0,
         text,
         other: Said::Nothing,

@@ -4,7 +4,7 @@ ghost use Rattle.cg_model_faults.specs.E314 as spec;
 ghost use Rattle.cg_desc_check_rtl.specs.Tables.{seen_rule, IsRow, IsNext, IsAlike, AreAlike};
 
 use crate::rule::{RuleName, Table, in_table, is_ruled, rule_leads};
-use cg_base::NoMemory;
+use cg_base::{NoMemory, refusals};
 use cg_model::Machine;
 use cg_model_faults::{MachineFault, Said};
 use std::alloc::Global;
@@ -111,7 +111,7 @@ pub fn first_circular(
     };
     if needs_itself(alloc, machine, get)? || needs_itself(alloc, machine, set)? {
         return Ok(Some(MachineFault {
-            number: 314,
+            number: refusals::CIRCULAR_RULE,
             place: 0,
             text: Said::Own,
             other: Said::Nothing,

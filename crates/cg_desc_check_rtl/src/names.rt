@@ -11,9 +11,10 @@ ghost use Rattle.cg_model_faults.specs.Finding.{at_place, where_so, stands_in};
 ghost use Rattle.cg_desc_check_rtl.specs.Named.{nameable};
 
 use crate::walk::{NodeRule, first_in};
+use cg_base::refusals;
+use cg_desc_check_format::fields_of_part;
 use cg_model::{Machine, Op, Part, Rtl, Source};
 use cg_model_faults::{MachineFault, Said};
-use cg_desc_check_format::fields_of_part;
 
 /// Where an expression stands that names fields and operands.
 #[derive(Clone, Copy)]
@@ -174,7 +175,7 @@ fn stray(may: bool, text: Said) -> Option<MachineFault>
         return None;
     }
     Some(MachineFault {
-        number: 306,
+        number: refusals::UNDEFINED_NAME,
         place: 0,
         text,
         other: Said::Nothing,

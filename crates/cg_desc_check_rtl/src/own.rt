@@ -4,7 +4,7 @@ ghost use Rattle.cg_base.specs.Modes.{mode_place};
 ghost use Rattle.cg_model_faults.specs.Judging as spec;
 
 use crate::walk::{NodeRule, first_in};
-use cg_base::{Mode, mode_place};
+use cg_base::{Mode, mode_place, refusals};
 use cg_model::{Op, Rtl};
 use cg_model_faults::{MachineFault, Purpose, Said};
 
@@ -52,7 +52,7 @@ fn outside(has: bool, op: Op) -> Option<MachineFault>
         return None;
     }
     Some(MachineFault {
-        number: 405,
+        number: refusals::OUTSIDE_RULE,
         place: 0,
         text: Said::Name(op),
         other: Said::Nothing,
@@ -105,7 +105,7 @@ fn other(own: Option<Mode>, mode: Option<Mode>) -> Option<MachineFault>
 {
     if has_other(mode, own) {
         return Some(MachineFault {
-            number: 402,
+            number: refusals::WRONG_MODE,
             place: 0,
             text: Said::Own,
             other: Said::Nothing,

@@ -11,9 +11,10 @@ ghost use Rattle.cg_model_faults.specs.E315 as spec;
 
 use crate::names::is_among;
 use crate::walk::{NodeRule, first_in};
+use cg_base::refusals;
+use cg_desc_check_format::bits_covered;
 use cg_model::{Field, Machine, Op, Rtl};
 use cg_model_faults::{MachineFault, Purpose, Said};
-use cg_desc_check_format::bits_covered;
 
 /// Whether the operation on two numbers of a place divides: the fourth to the seventh do.
 #[tactic(auto, using(crate::proofs::Dividing::dividing, crate::proofs::Dividing::dividing_from))]
@@ -154,7 +155,7 @@ fn fault() -> MachineFault
     ensures { result ≡ at_place 315 0 Own Nothing }
 {
     MachineFault {
-        number: 315,
+        number: refusals::IMPURE,
         place: 0,
         text: Said::Own,
         other: Said::Nothing,

@@ -4,7 +4,7 @@ ghost use Rattle.cg_base.specs.Refusing.{first};
 ghost use Rattle.cg_model.specs.declared.rtl.Rtl.{out-Rtl};
 ghost use Rattle.cg_model_faults.specs.E306 as spec;
 
-use cg_base::NoMemory;
+use cg_base::{NoMemory, refusals};
 use cg_model::{Machine, Op, Rtl};
 use cg_model_faults::{MachineFault, Said};
 
@@ -38,7 +38,7 @@ fn unnamed_at(machine: &Machine, locals: u64, rtl: &Rtl) -> Option<MachineFault>
         return None;
     }
     Some(MachineFault {
-        number: 306,
+        number: refusals::UNDEFINED_NAME,
         place: 0,
         text: Said::Number(rtl.number),
         other: Said::Nothing,

@@ -7,7 +7,9 @@ ghost use Rattle.cg_base.specs.Characters.{is_in_word};
 
 use crate::standing::{are_expressions, is_expression, is_expression_where};
 use cg_base::{Mode, address_mode, bits, is_in_word, mode_place};
-use cg_model::{Field, Hardware, HwKind, Insn, Keyword, Machine, MacroInsn, Multi, NamedValue, Piece};
+use cg_model::{
+    Field, Hardware, HwKind, Insn, Keyword, Machine, MacroInsn, Multi, NamedValue, Piece,
+};
 
 /// Whether bits are whole bytes, one to eight.
 fn is_size(bits: u8) -> bool

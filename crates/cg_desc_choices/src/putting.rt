@@ -9,10 +9,10 @@ ghost use Rattle.cg_desc_choices.specs.Walking.{within};
 use crate::stand::{Stand, new_value, setter_first, stand_for, unhidden};
 use cg_base::{Form, List, NoMemory, Text};
 use cg_model::Op;
+use cg_rtl::{behind_mode, is_else};
 use cg_rtl_resolve::{
     Function, behind_first, elements_first, elements_or_none, first_alone, function_of,
 };
-use cg_rtl::{behind_mode, is_else};
 use std::alloc::Global;
 
 /// What stands for operands where an expression is gone through, and how many lists inwards it is

@@ -6,8 +6,8 @@ ghost use Rattle.cg_rtl_resolve.specs.Names.{local_name};
 ghost use Rattle.cg_desc_choices.specs.Putting.{stand_for, setter_first, is_unhidden, unhidden, new_value};
 
 use cg_base::{Form, List, NoMemory, Text};
-use cg_rtl_resolve::local_name;
 use cg_rtl::first_symbol;
+use cg_rtl_resolve::local_name;
 use std::alloc::Global;
 
 /// What stands for an operand: a choice of an anyof operand.

@@ -8,7 +8,7 @@ ghost use Rattle.cg_desc_elements.specs.Reading.{said_to, faults_to, seen_reader
 
 use crate::element::Element;
 use cg_attrs::{Named, kind_among, named, read_frame};
-use cg_base::{Fault, Form, Forms, List, Stop, Top, stop_at};
+use cg_base::{Fault, Form, Forms, List, Stop, Top, refusals, stop_at};
 use cg_hw::read_hardware;
 use cg_ifield::read_field;
 use cg_insn::read_insn;
@@ -81,7 +81,7 @@ fn reader_under(head: &[u8]) -> Result<Reader, Fault<'_>>
         _ => match reader_named(head) {
             Some(reader) => Ok(reader),
             None => Err(Fault {
-                number: 301,
+                number: refusals::NO_FORM,
                 text: head,
             }),
         },
@@ -100,13 +100,13 @@ fn reader_for(form: &Form) -> Result<Reader, Fault<'_>>
 
 /// The fault of the form `if`, which is left out.
 const THE_FORM_IF: Fault<'static> = Fault {
-    number: 307,
+    number: refusals::LEFT_OUT,
     text: b"if",
 };
 
 /// The fault of a form that no symbol heads.
 const NO_HEAD: Fault<'static> = Fault {
-    number: 301,
+    number: refusals::NO_FORM,
     text: b"form",
 };
 

@@ -8,9 +8,9 @@ ghost use Rattle.cg_desc_fault_report.specs.Subject.{described_in, machine_in, e
 use cg_base::NoMemory;
 use cg_desc_check_rtl::first_circular as circular;
 use cg_desc_elements::Element;
+use cg_desc_fault_report::{Saying, Subject, fault_said};
 use cg_hw::HardwareForm;
 use cg_model::Machine;
-use cg_desc_fault_report::{Saying, Subject, fault_said};
 use std::alloc::Global;
 
 /// The same of the hardware of a number, which has this name.

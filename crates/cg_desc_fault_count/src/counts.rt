@@ -11,15 +11,15 @@ use cg_base::{List, NoMemory, Text};
 use cg_desc_check_element::{add, field_nodes, hardware_nodes, insn_nodes, multi_nodes};
 use cg_desc_choices::Written;
 use cg_desc_data::cells_of;
-use cg_desc_scope::{Described, all_bare, texts_with};
 use cg_desc_elements::Element;
+use cg_desc_fault_report::Subject;
+use cg_desc_machine::{insn_of, ruled_field, ruled_hardware, ruled_multi};
+use cg_desc_scope::{Described, all_bare, texts_with};
 use cg_hw::HardwareForm;
 use cg_ifield::{FieldForm, MultiForm, PlainForm};
 use cg_insn::InsnForm;
-use cg_rtl_resolve::Scope;
 use cg_operand::OperandForm;
-use cg_desc_fault_report::Subject;
-use cg_desc_machine::{insn_of, ruled_field, ruled_hardware, ruled_multi};
+use cg_rtl_resolve::Scope;
 use std::alloc::Global;
 
 /// How much forms give of what is counted over a whole machine.

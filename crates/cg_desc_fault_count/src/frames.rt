@@ -12,8 +12,8 @@ use cg_attrs::Clause;
 use cg_base::{Form, NoMemory};
 use cg_desc_data::Selection;
 use cg_desc_elements::{Kind, isas_of, selected_arch};
-use cg_desc_references::clauses_of;
 use cg_desc_fault_report::{Saying, only_text};
+use cg_desc_references::clauses_of;
 use std::alloc::Global;
 
 /// Whether the machine has no arch.

@@ -17,10 +17,10 @@ use cg_attrs::{Clause, Frame};
 use cg_base::NoMemory;
 use cg_desc_check_element::add;
 use cg_desc_elements::Element;
+use cg_desc_fault_report::{Saying, Subject};
+use cg_desc_references::clauses_of;
 use cg_insn::InsnForm;
 use cg_rtl_resolve::Scope;
-use cg_desc_references::clauses_of;
-use cg_desc_fault_report::{Saying, Subject};
 use std::alloc::Global;
 
 /// The limit that is passed with what is added.

@@ -15,17 +15,17 @@ ghost use Rattle.cg_desc_machine.specs.Seen.{base};
 
 use crate::passing::{Found, Passed, passing, too_many};
 use cg_attrs::{IsaForm, ModelForm};
+use cg_desc_check_format::bytes_of;
 use cg_desc_choices::Written;
 use cg_desc_data::{Selection, words};
-use cg_desc_scope::{Described, cycles_of};
+use cg_desc_fault_report::Subject;
 use cg_desc_insns::all_pieces;
+use cg_desc_machine::{insn_by, macro_slots, pieces_of, slot_names, target_of};
+use cg_desc_scope::{Described, cycles_of};
 use cg_hw::HardwareForm;
 use cg_insn::{InstructionForm, MacroForm};
 use cg_model::Keyword;
 use cg_rtl_resolve::Scope;
-use cg_desc_check_format::bytes_of;
-use cg_desc_fault_report::Subject;
-use cg_desc_machine::{insn_by, macro_slots, pieces_of, slot_names, target_of};
 use std::alloc::Global;
 
 /// How many words a keyword has that may be absent.

@@ -16,14 +16,14 @@ use cg_attrs::{Frame, MachForm};
 use cg_base::Text;
 use cg_desc_choices::{Written, WrittenPiece};
 use cg_desc_data::words;
-use cg_desc_scope::{Described, texts_with};
 use cg_desc_elements::Element;
+use cg_desc_fault_report::Subject;
 use cg_desc_insns::all_pieces;
+use cg_desc_scope::{Described, texts_with};
 use cg_hw::HardwareForm;
 use cg_insn::{InsnForm, MacroForm, NamedPiece};
 use cg_model::{Keyword, NamedValue};
 use cg_operand::OperandForm;
-use cg_desc_fault_report::Subject;
 use std::alloc::Global;
 
 /// The limit of a text that is passed.

@@ -7,8 +7,8 @@ ghost use Rattle.cg_desc_fault_format.specs.E310 as spec;
 ghost use Rattle.cg_desc_fault_report.specs.Subject.{described_in, machine_in, insns_in};
 
 use cg_base::{List, NoMemory};
-use cg_desc_choices::Written;
 use cg_desc_check_format::first_overlap as overlap;
+use cg_desc_choices::Written;
 use cg_desc_fault_report::{Placed, Saying, Subject, earliest_said, put_at_part};
 use cg_desc_machine::parts_of;
 use std::alloc::Global;

@@ -11,14 +11,14 @@ ghost use Rattle.cg_desc_fault_report.specs.Subject.{described_in, machine_in, e
 use crate::fields::field_named;
 use cg_attrs::{Frame, IsaForm};
 use cg_base::{List, NoMemory, Text};
+use cg_desc_check_format::first_bundled;
 use cg_desc_choices::Written;
 use cg_desc_data::{Extent, Framing, extent_of, has_place};
-use cg_desc_scope::Described;
 use cg_desc_elements::Element;
-use cg_ifield::PlainForm;
-use cg_desc_check_format::first_bundled;
 use cg_desc_fault_report::{Placed, Saying, Subject, earliest_said, only_text, put_at_part};
 use cg_desc_machine::parts_of;
+use cg_desc_scope::Described;
+use cg_ifield::PlainForm;
 use std::alloc::Global;
 
 /// Whether a field is one bit, in a word that lies in the shortest instruction.

@@ -12,9 +12,9 @@ use crate::fields::field_named;
 use cg_base::{List, NoMemory, Text, decimal};
 use cg_desc_choices::{NamedPart, Spot, Written, WrittenPart};
 use cg_desc_data::{extent_of, is_constant};
+use cg_desc_fault_report::{Placed, Saying, Subject, earliest_said, put_at_spot};
 use cg_desc_scope::Described;
 use cg_ifield::PlainForm;
-use cg_desc_fault_report::{Placed, Saying, Subject, earliest_said, put_at_spot};
 use std::alloc::Global;
 
 /// Whether a value is no constant of a field.

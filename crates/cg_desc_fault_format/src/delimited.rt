@@ -9,13 +9,13 @@ ghost use Rattle.cg_desc_fault_report.specs.Subject.{described_in, machine_in, e
 ghost use Rattle.cg_desc_machine.specs.Macros.{macro_in};
 
 use cg_base::{List, NoMemory, Text};
+use cg_desc_check_format::first_undelimited as undelimited;
 use cg_desc_choices::{Spot, Written, WrittenPiece};
 use cg_desc_elements::Element;
-use cg_desc_insns::all_pieces;
-use cg_insn::{InsnForm, MacroForm, NamedPiece};
-use cg_desc_check_format::first_undelimited as undelimited;
 use cg_desc_fault_report::{Placed, Saying, Subject, earliest_said, put_at_piece};
+use cg_desc_insns::all_pieces;
 use cg_desc_machine::{macro_slots, numbers_of, pieces_of, place_of, slot_names};
+use cg_insn::{InsnForm, MacroForm, NamedPiece};
 use std::alloc::Global;
 
 /// Whether a machine keeps a piece of a syntax with these slots.

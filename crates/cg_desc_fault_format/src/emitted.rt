@@ -10,14 +10,14 @@ ghost use Rattle.cg_desc_machine.specs.Seen.{seen_item, seen_items};
 
 use crate::slots::{SlotTest, put_pieces};
 use cg_base::{Form, List, NoMemory, Text};
-use cg_desc_scope::Described;
-use cg_desc_insns::all_pieces;
-use cg_insn::MacroForm;
-use cg_model::Given;
 use cg_desc_fault_report::{Saying, earliest_said, texts_said};
+use cg_desc_insns::all_pieces;
 use cg_desc_machine::{
     given_by, is_among as is_text_among, items_of, macro_slots, place_of, slot_names, target_of,
 };
+use cg_desc_scope::Described;
+use cg_insn::MacroForm;
+use cg_model::Given;
 use std::alloc::Global;
 
 /// An item: an operand, and what it is given, if not its own slot.

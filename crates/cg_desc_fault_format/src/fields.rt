@@ -12,8 +12,8 @@ ghost use Rattle.cg_desc_fault_report.specs.Subject.{described_in, element_in};
 use cg_base::{NoMemory, Text};
 use cg_desc_data::{Framing, Selection, extent_of, has_place};
 use cg_desc_elements::{Element, Namespace};
-use cg_ifield::{FieldForm, PlainForm};
 use cg_desc_fault_report::{Saying, Subject, only_text};
+use cg_ifield::{FieldForm, PlainForm};
 use std::alloc::Global;
 
 /// The form of a field.

@@ -13,12 +13,12 @@ use crate::emitted::first_in_macro;
 use cg_attrs::Clause;
 use cg_base::{List, NoMemory, Text};
 use cg_desc_choices::{NamedPart, Spot, Written, WrittenPart, WrittenPiece};
-use cg_desc_scope::Described;
 use cg_desc_elements::Element;
-use cg_insn::{InsnForm, NamedPiece};
-use cg_desc_references::clauses_of;
 use cg_desc_fault_report::{Placed, Saying, Subject, earliest_said, put_at_spot, texts_said};
 use cg_desc_machine::{is_among, slot_names};
+use cg_desc_references::clauses_of;
+use cg_desc_scope::Described;
+use cg_insn::{InsnForm, NamedPiece};
 use std::alloc::Global;
 
 /// A test of a syntax's slots.

@@ -11,19 +11,19 @@ ghost use Rattle.cg_desc_machine.specs.Seen.{base};
 ghost use Rattle.cg_desc_fault_least.specs.Least as spec;
 
 use crate::rules::Found;
-use cg_base::NoMemory;
+use cg_base::{NoMemory, refusals};
 use cg_desc_choices::Written;
 use cg_desc_fault_count::{Counts, first_circular, first_lacking, first_left_out, first_passed};
-use cg_desc_insns::form_over;
-use cg_desc_fault_rtl::first_impure;
 use cg_desc_fault_format::{
     first_misplaced, first_of_bundle, first_overlap, first_undelimited, first_unfit,
     first_unmatched,
 };
 use cg_desc_fault_name::{first_missing, first_of_another_kind};
-use cg_rtl_resolve::Scope;
-use cg_desc_references::first_repeated;
 use cg_desc_fault_report::{Saying, Subject, only_text};
+use cg_desc_fault_rtl::first_impure;
+use cg_desc_insns::form_over;
+use cg_desc_references::first_repeated;
+use cg_rtl_resolve::Scope;
 use std::alloc::Global;
 
 /// What is said of E305 of a form.
@@ -68,19 +68,19 @@ fn least_of_names(alloc: Global, scope: &mut Scope, of: &Subject) -> Found
 {
     let selection = &of.described.selection;
     if let Some(said) = first_lacking(alloc, selection, of.number)? {
-        return Ok(Some((303, said)));
+        return Ok(Some((refusals::ABSENT, said)));
     }
     if let Some(said) = first_of_another_kind(alloc, scope, of)? {
-        return Ok(Some((304, said)));
+        return Ok(Some((refusals::WRONG_KIND, said)));
     }
     if let Some(said) = repeated_said(alloc, of)? {
-        return Ok(Some((305, said)));
+        return Ok(Some((refusals::REPEATED_NAME, said)));
     }
     if let Some(said) = first_missing(alloc, scope, of)? {
-        return Ok(Some((306, said)));
+        return Ok(Some((refusals::UNDEFINED_NAME, said)));
     }
     match first_left_out(alloc, selection, of.number, &of.top.form)? {
-        Some(said) => Ok(Some((307, said))),
+        Some(said) => Ok(Some((refusals::LEFT_OUT, said))),
         None => Ok(None),
     }
 }
@@ -97,19 +97,19 @@ fn least_of_bits(
     ensures kept { base scope.new ≡ base scope.old }
 {
     if let Some(said) = first_passed(alloc, scope, of, before, own)? {
-        return Ok(Some((308, said)));
+        return Ok(Some((refusals::COUNT_PASSED, said)));
     }
     if let Some(said) = first_misplaced(alloc, of)? {
-        return Ok(Some((309, said)));
+        return Ok(Some((refusals::MISPLACED_FIELD, said)));
     }
     if let Some(said) = first_overlap(alloc, of)? {
-        return Ok(Some((310, said)));
+        return Ok(Some((refusals::OVERLAP, said)));
     }
     if let Some(said) = first_unfit(alloc, of)? {
-        return Ok(Some((311, said)));
+        return Ok(Some((refusals::WIDE_CONSTANT, said)));
     }
     match first_undelimited(alloc, of)? {
-        Some(said) => Ok(Some((312, said))),
+        Some(said) => Ok(Some((refusals::UNDELIMITED_SLOT, said))),
         None => Ok(None),
     }
 }
@@ -120,19 +120,19 @@ fn least_of_rules(alloc: Global, scope: &mut Scope, of: &Subject) -> Found
     ensures kept { base scope.new ≡ base scope.old }
 {
     if let Some(said) = first_unmatched(alloc, of)? {
-        return Ok(Some((313, said)));
+        return Ok(Some((refusals::SLOTS_DIFFER, said)));
     }
     if let Some(said) = first_circular(alloc, of)? {
-        return Ok(Some((314, said)));
+        return Ok(Some((refusals::CIRCULAR_RULE, said)));
     }
     if let Some(said) = first_impure(alloc, scope, of)? {
-        return Ok(Some((315, said)));
+        return Ok(Some((refusals::IMPURE, said)));
     }
     if let Some(said) = first_of_bundle(alloc, of)? {
-        return Ok(Some((316, said)));
+        return Ok(Some((refusals::BUNDLE_FIELD, said)));
     }
     match over_said(alloc, of.described.written.as_slice(), of.number)? {
-        Some(said) => Ok(Some((317, said))),
+        Some(said) => Ok(Some((refusals::MANY_INSTRUCTIONS, said))),
         None => Ok(None),
     }
 }

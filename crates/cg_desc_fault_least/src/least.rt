@@ -12,12 +12,12 @@ ghost use Rattle.cg_desc_fault_least.specs.Least as spec;
 use crate::data::least_at;
 use crate::modes::modes_at;
 use cg_base::{NoMemory, Refusal, Top};
-use cg_desc_fault_count::Before;
-use cg_desc_scope::{ByForm, Described};
 use cg_desc_elements::Element;
+use cg_desc_fault_count::Before;
+use cg_desc_fault_report::{Saying, Subject, refusal_of};
+use cg_desc_scope::{ByForm, Described};
 use cg_model::Machine;
 use cg_rtl_resolve::Scope;
-use cg_desc_fault_report::{Saying, Subject, refusal_of};
 use std::alloc::Global;
 
 /// What a description is refused for, or want of memory.

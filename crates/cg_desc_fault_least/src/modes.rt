@@ -13,17 +13,18 @@ use crate::rules::{
     Found, first_of_field, first_of_hardware, first_of_multi, of_rtl, of_where, wanted,
 };
 use cg_attrs::Clause;
+use cg_base::refusals;
 use cg_desc_choices::Written;
 use cg_desc_elements::Element;
+use cg_desc_fault_report::Subject;
 use cg_desc_fault_rtl::first_unknown;
+use cg_desc_machine::{assertion_of, ruled_field, ruled_hardware, ruled_multi, semantics_of};
+use cg_desc_references::clauses_of;
 use cg_ifield::FieldForm;
 use cg_insn::InsnForm;
 use cg_model::Machine;
 use cg_model_faults::Purpose;
 use cg_rtl_resolve::Scope;
-use cg_desc_references::clauses_of;
-use cg_desc_fault_report::Subject;
-use cg_desc_machine::{assertion_of, ruled_field, ruled_hardware, ruled_multi, semantics_of};
 use std::alloc::Global;
 
 /// The first fault of the assertions of an instruction.
@@ -122,7 +123,7 @@ fn modes_fault(alloc: Global, scope: &mut Scope, of: &Subject) -> Found
     ensures kept { base scope.new ≡ base scope.old }
 {
     if let Some(said) = first_unknown(alloc, scope, of)? {
-        return Ok(Some((405, said)));
+        return Ok(Some((refusals::OUTSIDE_RULE, said)));
     }
     let clauses = clauses_of(alloc, of.element.kind(), &of.top.form)?;
     first_of_modes(alloc, scope, of, &clauses)

@@ -13,12 +13,12 @@ use cg_attrs::Clause;
 use cg_base::{Form, Mode, NoMemory, Text};
 use cg_desc_check_element::{Wanted, by_mode};
 use cg_desc_data::Numbering;
+use cg_desc_fault_report::{Saying, fault_said};
 use cg_desc_fault_rtl::sets_in;
+use cg_desc_machine::set_rule;
 use cg_model::{Field, Hardware, Machine, Multi, Rtl};
 use cg_model_faults::Purpose;
 use cg_rtl_resolve::{Rule, Scope, built};
-use cg_desc_fault_report::{Saying, fault_said};
-use cg_desc_machine::set_rule;
 use std::alloc::Global;
 
 /// What is found, with its number, or want of memory.

@@ -20,18 +20,18 @@ use crate::shapes::put_of_choices;
 use crate::words::put_of_words;
 use cg_attrs::Clause;
 use cg_base::{List, Mode, NoMemory, Text};
-use cg_desc_scope::Described;
+use cg_desc_check_rtl::{Cells, NodeRule};
 use cg_desc_elements::{Kind, Namespace};
+use cg_desc_fault_report::{Saying, Subject, earliest_said, fault_said, only_text};
 use cg_desc_fault_rtl::{
     Asked, Expression, UseRule, asks_meaning, asks_operands, expressions, no_operand,
     put_of_expressions,
 };
 use cg_desc_names::Names;
+use cg_desc_references::{Finding, Reference, clauses_of, is_of_another_kind};
+use cg_desc_scope::Described;
 use cg_model::{Machine, Op};
 use cg_rtl_resolve::{Scope, leaf};
-use cg_desc_check_rtl::{Cells, NodeRule};
-use cg_desc_references::{Finding, Reference, clauses_of, is_of_another_kind};
-use cg_desc_fault_report::{Saying, Subject, earliest_said, fault_said, only_text};
 use cg_rtl_uses::Use;
 use std::alloc::Global;
 

@@ -13,14 +13,14 @@ ghost use Rattle.cg_desc_machine.specs.Seen.{seen_items};
 use crate::names::NameRule;
 use cg_base::{Form, List, NoMemory, Text};
 use cg_desc_choices::WrittenPiece;
-use cg_desc_scope::Described;
 use cg_desc_elements::{Element, Namespace};
+use cg_desc_fault_report::{Placed, only_text, put_at};
 use cg_desc_insns::all_pieces;
-use cg_insn::{InsnForm, MacroForm, NamedPiece};
+use cg_desc_machine::{emitted_name, items_of, macro_slots, slot_or_keyword, target_of};
 use cg_desc_names::Names;
 use cg_desc_references::{Finding, Place, found, is_defined};
-use cg_desc_fault_report::{Placed, only_text, put_at};
-use cg_desc_machine::{emitted_name, items_of, macro_slots, slot_or_keyword, target_of};
+use cg_desc_scope::Described;
+use cg_insn::{InsnForm, MacroForm, NamedPiece};
 use std::alloc::Global;
 
 /// A name in the form of a macro instruction, and what it stands for there.

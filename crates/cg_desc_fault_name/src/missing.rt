@@ -20,18 +20,18 @@ use crate::macros::put_of_macro;
 use crate::names::{NameRule, put_of_names};
 use cg_attrs::Clause;
 use cg_base::{List, Mode, NoMemory, Text};
+use cg_desc_check_rtl::{Names, NodeRule, Standing};
 use cg_desc_elements::Element;
+use cg_desc_fault_report::{Saying, Subject, earliest_said, fault_said, only_text};
 use cg_desc_fault_rtl::{
     Expression, Naming, UseRule, asks_meaning, asks_operands, expressions, is_anyof, is_coding,
     no_operand, put_of_expressions,
 };
+use cg_desc_machine::is_among;
 use cg_desc_names::Names as Known;
+use cg_desc_references::{Finding, Reference, clauses_of, is_undefined};
 use cg_model::{Machine, Op};
 use cg_rtl_resolve::{Scope, leaf};
-use cg_desc_check_rtl::{Names, NodeRule, Standing};
-use cg_desc_references::{Finding, Reference, clauses_of, is_undefined};
-use cg_desc_fault_report::{Saying, Subject, earliest_said, fault_said, only_text};
-use cg_desc_machine::is_among;
 use cg_rtl_uses::Use;
 use std::alloc::Global;
 

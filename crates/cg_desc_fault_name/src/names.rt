@@ -9,9 +9,9 @@ use cg_attrs::Clause;
 use cg_base::{Form, List, NoMemory, Text, only_word};
 use cg_desc_choices::{Spot, WrittenPiece};
 use cg_desc_elements::Kind;
+use cg_desc_fault_report::{Placed, only_text, place_at, put_at};
 use cg_desc_insns::{all_pieces, own_spot};
 use cg_desc_references::{Finding, Place, Reference, parts_in, put_names, put_part, put_slots};
-use cg_desc_fault_report::{Placed, only_text, place_at, put_at};
 use std::alloc::Global;
 
 /// A rule for names that stand for other elements.

@@ -11,8 +11,8 @@ ghost use Rattle.cg_desc_fault_report.specs.Subject.{all_lent};
 use crate::words::put_of_literals;
 use cg_base::{Form, List, NoMemory};
 use cg_desc_choices::Written;
-use cg_rtl::{first_left_out_in, first_wrong_in};
 use cg_desc_fault_report::{Placed, only_text, put_at};
+use cg_rtl::{first_left_out_in, first_wrong_in};
 use std::alloc::Global;
 
 /// The head of the first function of a wrong shape in an expression, and else the first that is left out.

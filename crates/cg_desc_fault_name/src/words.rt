@@ -10,13 +10,13 @@ ghost use Rattle.cg_desc_fault_report.specs.Subject.{all_lent};
 
 use cg_attrs::{Clause, KeywordForm};
 use cg_base::{List, NoMemory, Text, headed_in, only_symbol};
+use cg_desc_check_values::{are_all_words, is_piece};
 use cg_desc_choices::{Spot, Written, WrittenPiece};
 use cg_desc_data::{Selection, keyword_named, words_of};
 use cg_desc_elements::Element;
-use cg_desc_check_values::{are_all_words, is_piece};
+use cg_desc_fault_report::{Placed, only_text, put_at, put_at_spot};
 use cg_insn::NamedPiece;
 use cg_model::Piece;
-use cg_desc_fault_report::{Placed, only_text, put_at, put_at_spot};
 use std::alloc::Global;
 
 /// Whether the words of a keyword are words of hardware.

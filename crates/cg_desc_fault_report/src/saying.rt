@@ -6,9 +6,9 @@ ghost use Rattle.cg_base.specs.Refusing.{first};
 ghost use Rattle.cg_desc_fault_report.specs.Saying as spec;
 
 use cg_base::{List, NoMemory, Refusal, Text, Top};
+use cg_desc_check_machine::said_text;
 use cg_model::Machine;
 use cg_model_faults::MachineFault;
-use cg_desc_check_machine::said_text;
 use std::alloc::Global;
 
 /// What a refusal says (docs/REFUSALS.md).

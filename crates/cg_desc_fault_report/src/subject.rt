@@ -1,7 +1,7 @@
 use cg_base::Top;
 use cg_desc_choices::Written;
-use cg_desc_scope::Described;
 use cg_desc_elements::Element;
+use cg_desc_scope::Described;
 use cg_model::Machine;
 
 /// A form of a description that is judged, with what it gives (docs/REFUSALS.md).

@@ -4,10 +4,10 @@ ghost use Rattle.std.specs.Prelude.{◌≡◌, IfOk};
 ghost use Rattle.cg_desc_fault_rtl.specs.Asking as spec;
 
 use cg_base::{Form, List, NoMemory, Text};
+use cg_desc_check_rtl::names_many;
 use cg_model::{Machine, Part};
 use cg_model_faults::Purpose;
 use cg_rtl_resolve::{Rule, Scope, built};
-use cg_desc_check_rtl::names_many;
 use cg_rtl_uses::{PlacedUse, uses_of};
 use std::alloc::Global;
 

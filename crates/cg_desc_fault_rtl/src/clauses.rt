@@ -13,14 +13,14 @@ use cg_attrs::Clause;
 use cg_base::{Form, List, NoMemory, Text, only};
 use cg_desc_data::{extent_of, hardware_of, multi_of};
 use cg_desc_elements::Element;
+use cg_desc_fault_report::{Subject, put_copies};
+use cg_desc_machine::{set_rule, sets_among};
 use cg_hw::{HardwareForm, expression};
 use cg_ifield::{FieldForm, MultiForm, PlainForm, sets_behind};
 use cg_insn::InsnForm;
 use cg_model::{Machine, Multi};
-use cg_rtl_resolve::{Rule, Scope};
 use cg_operand::OperandForm;
-use cg_desc_fault_report::{Subject, put_copies};
-use cg_desc_machine::{set_rule, sets_among};
+use cg_rtl_resolve::{Rule, Scope};
 use std::alloc::Global;
 
 /// Puts an expression of an element of this name at the end that stands alone in its clause, where it is

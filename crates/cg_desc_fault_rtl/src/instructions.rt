@@ -12,12 +12,12 @@ use crate::asking::{Asked, Asking, Expression, Naming, expression_of, plain_aski
 use cg_attrs::Clause;
 use cg_base::{Form, List, NoMemory, Text};
 use cg_desc_choices::{Anyof, Written, WrittenAssertion};
+use cg_desc_fault_report::Subject;
 use cg_desc_insns::{anyofs_of, expression_in, parts_of};
+use cg_desc_machine::{parts_of as machine_parts, set_rule};
+use cg_desc_references::Place;
 use cg_insn::InstructionForm;
 use cg_rtl_resolve::{Rule, Scope};
-use cg_desc_references::Place;
-use cg_desc_fault_report::Subject;
-use cg_desc_machine::{parts_of as machine_parts, set_rule};
 use std::alloc::Global;
 
 /// The names of anyof operands.

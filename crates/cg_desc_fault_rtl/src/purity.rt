@@ -18,17 +18,19 @@ use crate::judging::{UseRule, no_operand, put_of_expression};
 use crate::symbols::is_anyof;
 use cg_attrs::Clause;
 use cg_base::{List, Mode, NoMemory, Text};
+use cg_desc_check_rtl::{NodeRule, Purity, names_many};
 use cg_desc_choices::Written;
 use cg_desc_elements::Element;
-use cg_insn::{InsnForm, InstructionForm};
+use cg_desc_fault_report::{
+    Placed, Saying, Subject, earliest_said, fault_said, only_text, put_at, put_copies,
+};
+use cg_desc_machine::assertion_of;
 use cg_desc_names::Names;
+use cg_desc_references::clauses_of;
+use cg_insn::{InsnForm, InstructionForm};
 use cg_model::{Machine, Op};
 use cg_model_faults::Purpose;
 use cg_rtl_resolve::{Scope, leaf};
-use cg_desc_check_rtl::{NodeRule, Purity, names_many};
-use cg_desc_references::clauses_of;
-use cg_desc_fault_report::{Placed, Saying, Subject, earliest_said, fault_said, only_text, put_at, put_copies};
-use cg_desc_machine::assertion_of;
 use cg_rtl_uses::Use;
 use std::alloc::Global;
 

@@ -14,9 +14,9 @@ use crate::judging::{UseRule, put_of_expressions};
 use cg_attrs::Clause;
 use cg_base::{List, NoMemory};
 use cg_desc_elements::Element;
-use cg_rtl_resolve::Scope;
-use cg_desc_references::clauses_of;
 use cg_desc_fault_report::{Saying, Subject, earliest_said, only_text};
+use cg_desc_references::clauses_of;
+use cg_rtl_resolve::Scope;
 use cg_rtl_uses::Use;
 use std::alloc::Global;
 

@@ -13,10 +13,10 @@ use crate::written::{all_pieces, expression_in, own_expression};
 use cg_base::{Form, List, NoMemory, Text};
 use cg_desc_choices::{Anyof, Choice, NamedPart, WrittenPart, WrittenPiece};
 use cg_desc_elements::Element;
-use cg_insn::NamedPiece;
 use cg_desc_names::Names;
-use cg_operand::{AnyofOperandForm, DerivedOperandForm};
 use cg_desc_references::Place;
+use cg_insn::NamedPiece;
+use cg_operand::{AnyofOperandForm, DerivedOperandForm};
 use std::alloc::Global;
 
 /// What a derived operand puts in place.

@@ -11,8 +11,8 @@ use crate::written::written_of;
 use cg_base::{List, NoMemory, Text};
 use cg_desc_choices::{Written, each_choice};
 use cg_desc_elements::Element;
-use cg_insn::InsnForm;
 use cg_desc_names::Names;
+use cg_insn::InsnForm;
 use std::alloc::Global;
 
 /// Puts the instructions that one, as it is written, becomes at the end.

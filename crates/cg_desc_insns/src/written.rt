@@ -10,9 +10,9 @@ use crate::parts::{own_spot, parts_of};
 use cg_base::{Form, List, NoMemory, Stop, Text, only};
 use cg_desc_choices::{Written, WrittenPiece};
 use cg_desc_elements::Element;
-use cg_insn::{InstructionForm, NamedPiece, pieces};
 use cg_desc_names::Names;
 use cg_desc_references::Place;
+use cg_insn::{InstructionForm, NamedPiece, pieces};
 use std::alloc::Global;
 
 /// The one form that stands behind a clause's name. None where the clause is no list, or has none or more

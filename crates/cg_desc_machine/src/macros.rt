@@ -17,13 +17,13 @@ use crate::slots::slot_names;
 use cg_base::{Form, List, NoMemory, Text};
 use cg_desc_choices::{Written, WrittenPiece};
 use cg_desc_data::{Numbering, Selection, short};
-use cg_desc_scope::{Described, distinct};
 use cg_desc_elements::Element;
 use cg_desc_insns::{all_pieces, only_in};
+use cg_desc_scope::{Described, distinct};
 use cg_insn::{InsnForm, MacroForm, NamedPiece};
 use cg_model::{Given, MacroInsn};
-use cg_rtl_resolve::behind_first;
 use cg_rtl::first_symbol;
+use cg_rtl_resolve::behind_first;
 use std::alloc::Global;
 
 /// The form of a macro instruction that takes part.

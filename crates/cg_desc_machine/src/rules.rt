@@ -14,9 +14,9 @@ ghost use Rattle.cg_desc_machine.specs.Seen.{base, seen_sets};
 
 use cg_base::{Form, List, Mode, NoMemory, Text, only};
 use cg_desc_data::{Numbering, field_of, hardware_of, multi_of};
-use cg_desc_scope::Described;
 use cg_desc_elements::Element;
 use cg_desc_insns::only_in;
+use cg_desc_scope::Described;
 use cg_hw::{HardwareForm, expression};
 use cg_ifield::{MultiForm, PlainForm, field_set, sets_behind};
 use cg_model::{Field, Hardware, Multi, Rtl};

@@ -7,12 +7,12 @@ ghost use Rattle.cg_attrs.specs.Clauses.{seen_clause};
 ghost use Rattle.cg_desc_names.specs.Table.{known};
 ghost use Rattle.cg_desc_references.specs.E305.{stands_here, own_repeated, items_repeated, constants_repeated, repeated_in, repeated_at, repeated, e305};
 
-use crate::units::{front, unit_repeated};
+use crate::clauses_of;
+use crate::repeated_units::{front, unit_repeated};
 use cg_attrs::Clause;
 use cg_base::{Form, NoMemory, Text};
 use cg_desc_elements::{Element, Namespace};
 use cg_desc_names::{Item, Names, Standing, constants_in, counted_name};
-use cg_desc_references::clauses_of;
 use std::alloc::Global;
 
 /// Whether the first with a name stands in this form and at this place in it.

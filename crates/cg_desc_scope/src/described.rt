@@ -7,6 +7,7 @@ ghost use Rattle.cg_desc_scope.specs.Bare.{bare_names, bare_operand};
 ghost use Rattle.cg_desc_scope.specs.Seen.{forms_of, seen_described};
 
 use crate::bare::{bare_names, bare_operand};
+use crate::first_model;
 use crate::texts::error_texts;
 use cg_attrs::ModelForm;
 use cg_base::{List, NoMemory, Text, Top};
@@ -19,7 +20,6 @@ use cg_desc_insns::expanded;
 use cg_desc_names::Item;
 use cg_model::{Field, Hardware, Multi, Operand};
 use cg_rtl_resolve::{EnumValue, Rule, Scope};
-use crate::first_model;
 use std::alloc::Global;
 
 /// What a description says of a machine before its expressions are read: all that their names stand for.

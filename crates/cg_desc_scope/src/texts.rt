@@ -17,9 +17,9 @@ use cg_base::{Form, List, NoMemory, Text, Top};
 use cg_desc_choices::Written;
 use cg_desc_data::Selection;
 use cg_desc_elements::{Element, Kind};
-use cg_rtl_resolve::{behind_first, elements_or_none};
 use cg_desc_references::clauses_of;
 use cg_rtl::behind_mode;
+use cg_rtl_resolve::{behind_first, elements_or_none};
 use std::alloc::Global;
 
 /// The text of `(error "text")`.

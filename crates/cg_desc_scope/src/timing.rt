@@ -14,8 +14,8 @@ use cg_base::{Form, NoMemory, Text, only_natural};
 use cg_desc_data::Selection;
 use cg_desc_elements::Element;
 use cg_insn::InstructionForm;
-use cg_rtl_resolve::{behind_first, elements_or_none};
 use cg_rtl::first_symbol;
+use cg_rtl_resolve::{behind_first, elements_or_none};
 use std::alloc::Global;
 
 /// A model of the machine.

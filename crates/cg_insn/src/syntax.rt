@@ -7,7 +7,7 @@ ghost use Rattle.cg_base.specs.Refusing.{least};
 ghost use Rattle.cg_base.specs.Answering.{GivesForm};
 ghost use Rattle.cg_insn.specs.Syntax.{seen_piece, is_name_byte, is_literal_byte, begins_with_bar, has_bars, is_literal, is_closing, slot_named, slot_in_braces, bare_slot, slot, up_to_slot, literal_of, literal, first_piece, pieces_of, is_syntax, syntax_faults, Writes, Rereads};
 
-use cg_base::{Fault, List, NoMemory, Stop, Text, stop_at};
+use cg_base::{Fault, List, NoMemory, Stop, Text, refusals, stop_at};
 use std::alloc::Global;
 
 /// A piece of a syntax (docs/LANGUAGE.md, "Instructions").
@@ -248,6 +248,6 @@ pub fn pieces(alloc: Global, syntax: &Text) -> Result<List<NamedPiece>, Stop>
 
 /// The fault of a text that is no syntax.
 const NO_SYNTAX: Fault<'static> = Fault {
-    number: 304,
+    number: refusals::WRONG_KIND,
     text: b"syntax",
 };

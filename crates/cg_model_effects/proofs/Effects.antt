@@ -1,5 +1,5 @@
 -- Laws of effects: an equation at each expression, and that an effect is judged as its expression is.
-use Rattle.std.proofs.Common.{◌≡◌, ℕ, suc, refl, ap, List, map, Option, ℤ}
+use Rattle.std.proofs.Common.{◌≡◌, ℕ, suc, refl, ap, List, [], map, Option, ℤ}
 use Rattle.cg_base.specs.declared.Mode.{Mode}
 use Rattle.cg_model.proofs.Meanings.{meaning_checked, meaning_at, gives_out, pure_at, pure_gives_at, out_at, verdict_at, said_at, checked_at}
 use Rattle.cg_model.specs.Checked.{Locals, checked}

@@ -3,8 +3,7 @@
 use Rattle.std.specs.Prelude.{◌≡◌, ℕ, suc, ◌+◌, List, [], ◌∷◌, ◌++◌, pos, Option, Some, None, slice_get, codes}
 use Rattle.std.specs.Fmt.{signed_decimal}
 use Rattle.cg_base.specs.Faults.{hex_byte}
-use Rattle.cg_base.specs.declared.mode.Mode.{Mode}
-use Rattle.cg_base.specs.declared.mode.Mode.TheVariants as mode
+use Rattle.cg_base.specs.Modes.{mode_word}
 use Rattle.cg_base.specs.declared.refusal.Refusal.{Refusal}
 use Rattle.cg_model.specs.Clashing.{FirstClash, NoClash}
 use Rattle.cg_model_faults.specs.Finding.{Faults}

@@ -1,5 +1,5 @@
-use cg_model::Op;
 use cg_base::Mode;
+use cg_model::Op;
 
 /// What a text of a refusal says. A number names an element of the machine at hand.
 #[derive(Clone, Copy)]

@@ -10,22 +10,22 @@ ghost use Rattle.cg_model_pure_eval.specs.Seen.{all_had, each_had};
 ghost use Rattle.cg_model_pure_eval.specs.Typed.{Fits, HasBits, IsIn};
 ghost use Rattle.cg_model_pure_eval.specs.Typing.{typed, any_typed, operand_typed};
 
-use cg_base::{Mode, TernaryOp, UnaryOp};
+use crate::around::Around;
+use crate::leads::{leading_one, leading_two};
+use crate::typed::{Answer, Typed};
+use crate::{leaf, words};
+use cg_base::{Mode, TernaryOp, UnaryOp, refusals};
+use cg_model::{Kind, Machine, Op, Rtl};
+use cg_modes::mode_within;
 use cg_modes_leaf::leaf::{ends_with_else, is_else, last_loose};
 use cg_modes_leaf::named as names;
 use cg_modes_leaf::verdict::{
     any_mode, fault, given, is_loose, narrower, no_shape, parts, same_bits, stated, valued, wider,
 };
-use cg_model::{Kind, Machine, Op, Rtl};
-use cg_modes::mode_within;
-use cg_model_pure_eval::around::Around;
-use cg_model_pure_eval::leads::{leading_one, leading_two};
-use cg_model_pure_eval::typed::{Answer, Typed};
-use cg_model_pure_eval::{leaf, words};
 
 /// What a pure expression gives, with its mode, or why it has none.
 #[cycle(pure)]
-#[tactic(auto, using(cg_model_pure_eval::proofs::Laws::had_items))]
+#[tactic(auto, using(crate::proofs::Laws::had_items))]
 pub fn eval<A: Around>(rtl: &Rtl, machine: &Machine, around: &A, want: Option<Mode>) -> Answer
     requires ready { A.ready around.now machine.now }
     requires had { all_had machine.now (A.seen around.now machine.now) rtl.now ≡ true }
@@ -73,7 +73,7 @@ pub fn eval<A: Around>(rtl: &Rtl, machine: &Machine, around: &A, want: Option<Mo
 
 /// An expression of which any mode will do.
 #[cycle(pure)]
-#[tactic(auto, unfolding(cg_model_pure_eval::specs::Typing::typed, cg_model_pure_eval::specs::Typing::any_typed), using(cg_model_pure_eval::proofs::Laws::pure_rules))]
+#[tactic(auto, unfolding(crate::specs::Typing::typed, crate::specs::Typing::any_typed), using(crate::proofs::Laws::pure_rules))]
 fn any<A: Around>(rtl: &Rtl, machine: &Machine, around: &A) -> Answer
     requires ready { A.ready around.now machine.now }
     requires had { all_had machine.now (A.seen around.now machine.now) rtl.now ≡ true }
@@ -88,7 +88,7 @@ fn any<A: Around>(rtl: &Rtl, machine: &Machine, around: &A) -> Answer
 
 /// A value of which no mode is wanted.
 #[cycle(pure)]
-#[tactic(auto, unfolding(cg_model_pure_eval::specs::Typing::typed, cg_model_pure_eval::specs::Parting::value_typed), using(cg_model_pure_eval::proofs::Laws::pure_rules))]
+#[tactic(auto, unfolding(crate::specs::Typing::typed, crate::specs::Parting::value_typed), using(crate::proofs::Laws::pure_rules))]
 fn value<A: Around>(rtl: &Rtl, machine: &Machine, around: &A) -> Answer
     requires ready { A.ready around.now machine.now }
     requires had { all_had machine.now (A.seen around.now machine.now) rtl.now ≡ true }
@@ -128,7 +128,7 @@ fn operand<A: Around>(
 }
 
 #[cycle(pure)]
-#[tactic(auto, unfolding(cg_model_pure_eval::specs::Typing::unary_typed), using(crate::proofs::Rules::unary_rules))]
+#[tactic(auto, unfolding(crate::specs::Typing::unary_typed), using(crate::proofs::Rules::unary_rules))]
 fn unary<A: Around>(rtl: &Rtl, machine: &Machine, around: &A, want: Option<Mode>) -> Answer
     requires ready { A.ready around.now machine.now }
     requires op { (out-Rtl rtl.now).op ≡ Op.Unary }
@@ -155,7 +155,7 @@ fn unary<A: Around>(rtl: &Rtl, machine: &Machine, around: &A, want: Option<Mode>
 }
 
 #[cycle(pure)]
-#[tactic(auto, unfolding(cg_model_pure_eval::specs::Typing::binary_typed, cg_model_pure_eval::specs::Typing::kind_typed), using(crate::proofs::Rules::binary_rules))]
+#[tactic(auto, unfolding(crate::specs::Typing::binary_typed, crate::specs::Typing::kind_typed), using(crate::proofs::Rules::binary_rules))]
 fn binary<A: Around>(rtl: &Rtl, machine: &Machine, around: &A, want: Option<Mode>) -> Answer
     requires ready { A.ready around.now machine.now }
     requires op { (out-Rtl rtl.now).op ≡ Op.Binary }
@@ -194,7 +194,7 @@ fn binary<A: Around>(rtl: &Rtl, machine: &Machine, around: &A, want: Option<Mode
 }
 
 #[cycle(pure)]
-#[tactic(auto, unfolding(cg_model_pure_eval::specs::Typing::ext_typed), using(crate::proofs::Rules::resize_rules))]
+#[tactic(auto, unfolding(crate::specs::Typing::ext_typed), using(crate::proofs::Rules::resize_rules))]
 fn ext<A: Around>(rtl: &Rtl, machine: &Machine, around: &A, want: Option<Mode>) -> Answer
     requires ready { A.ready around.now machine.now }
     requires op { (out-Rtl rtl.now).op ≡ Op.Ext }
@@ -212,7 +212,7 @@ fn ext<A: Around>(rtl: &Rtl, machine: &Machine, around: &A, want: Option<Mode>) 
 }
 
 #[cycle(pure)]
-#[tactic(auto, unfolding(cg_model_pure_eval::specs::Typing::zext_typed), using(crate::proofs::Rules::resize_rules))]
+#[tactic(auto, unfolding(crate::specs::Typing::zext_typed), using(crate::proofs::Rules::resize_rules))]
 fn zext<A: Around>(rtl: &Rtl, machine: &Machine, around: &A, want: Option<Mode>) -> Answer
     requires ready { A.ready around.now machine.now }
     requires op { (out-Rtl rtl.now).op ≡ Op.Zext }
@@ -230,7 +230,7 @@ fn zext<A: Around>(rtl: &Rtl, machine: &Machine, around: &A, want: Option<Mode>)
 }
 
 #[cycle(pure)]
-#[tactic(auto, unfolding(cg_model_pure_eval::specs::Typing::trunc_typed), using(crate::proofs::Rules::resize_rules))]
+#[tactic(auto, unfolding(crate::specs::Typing::trunc_typed), using(crate::proofs::Rules::resize_rules))]
 fn trunc<A: Around>(rtl: &Rtl, machine: &Machine, around: &A, want: Option<Mode>) -> Answer
     requires ready { A.ready around.now machine.now }
     requires op { (out-Rtl rtl.now).op ≡ Op.Trunc }
@@ -248,7 +248,7 @@ fn trunc<A: Around>(rtl: &Rtl, machine: &Machine, around: &A, want: Option<Mode>
 }
 
 #[cycle(pure)]
-#[tactic(auto, unfolding(cg_model_pure_eval::specs::Carrying::ternary_typed), using(crate::proofs::Rules::ternary_rules))]
+#[tactic(auto, unfolding(crate::specs::Carrying::ternary_typed), using(crate::proofs::Rules::ternary_rules))]
 fn ternary<A: Around>(rtl: &Rtl, machine: &Machine, around: &A, want: Option<Mode>) -> Answer
     requires ready { A.ready around.now machine.now }
     requires op { (out-Rtl rtl.now).op ≡ Op.Ternary }
@@ -269,7 +269,7 @@ fn ternary<A: Around>(rtl: &Rtl, machine: &Machine, around: &A, want: Option<Mod
 
 /// Two operands that agree, and a carry of one bit.
 #[cycle(pure)]
-#[tactic(auto, unfolding(cg_model_pure_eval::specs::Carrying::carry_typed))]
+#[tactic(auto, unfolding(crate::specs::Carrying::carry_typed))]
 fn carried<A: Around>(
     rtl: &Rtl,
     op: TernaryOp,
@@ -293,7 +293,7 @@ fn carried<A: Around>(
 }
 
 #[cycle(pure)]
-#[tactic(auto, unfolding(cg_model_pure_eval::specs::Parting::subword_typed), using(cg_model_pure_eval::proofs::Parts::subword_law))]
+#[tactic(auto, unfolding(crate::specs::Parting::subword_typed), using(crate::proofs::Parts::subword_law))]
 fn subword<A: Around>(rtl: &Rtl, machine: &Machine, around: &A, want: Option<Mode>) -> Answer
     requires ready { A.ready around.now machine.now }
     requires op { (out-Rtl rtl.now).op ≡ Op.Subword }
@@ -312,7 +312,7 @@ fn subword<A: Around>(rtl: &Rtl, machine: &Machine, around: &A, want: Option<Mod
 
 /// The values of several expressions, of which all must hold or one.
 #[cycle(pure)]
-#[tactic(auto, unfolding(cg_model_pure_eval::specs::Joining::held_typed))]
+#[tactic(auto, unfolding(crate::specs::Joining::held_typed))]
 fn holds<A: Around>(items: &[Rtl], machine: &Machine, around: &A, every: bool) -> Answer
     requires ready { A.ready around.now machine.now }
     requires had { each_had machine.now (A.seen around.now machine.now) items.now ≡ true }
@@ -328,7 +328,7 @@ fn holds<A: Around>(items: &[Rtl], machine: &Machine, around: &A, every: bool) -
 }
 
 #[cycle(pure)]
-#[tactic(auto, using(cg_model_pure_eval::proofs::Joins::andif_law))]
+#[tactic(auto, using(crate::proofs::Joins::andif_law))]
 fn andif<A: Around>(rtl: &Rtl, machine: &Machine, around: &A, _want: Option<Mode>) -> Answer
     requires ready { A.ready around.now machine.now }
     requires op { (out-Rtl rtl.now).op ≡ Op.AndIf }
@@ -340,7 +340,7 @@ fn andif<A: Around>(rtl: &Rtl, machine: &Machine, around: &A, _want: Option<Mode
 }
 
 #[cycle(pure)]
-#[tactic(auto, using(cg_model_pure_eval::proofs::Joins::orif_law))]
+#[tactic(auto, using(crate::proofs::Joins::orif_law))]
 fn orif<A: Around>(rtl: &Rtl, machine: &Machine, around: &A, _want: Option<Mode>) -> Answer
     requires ready { A.ready around.now machine.now }
     requires op { (out-Rtl rtl.now).op ≡ Op.OrIf }
@@ -353,7 +353,7 @@ fn orif<A: Around>(rtl: &Rtl, machine: &Machine, around: &A, _want: Option<Mode>
 
 /// A part that is joined with others, in their mode.
 #[cycle(pure)]
-#[tactic(auto, unfolding(cg_model_pure_eval::specs::Typing::typed, cg_model_pure_eval::specs::Joining::part_typed), using(cg_model_pure_eval::proofs::Laws::pure_rules))]
+#[tactic(auto, unfolding(crate::specs::Typing::typed, crate::specs::Joining::part_typed), using(crate::proofs::Laws::pure_rules))]
 fn part<A: Around>(rtl: &Rtl, machine: &Machine, around: &A, mode: Mode) -> Answer
     requires ready { A.ready around.now machine.now }
     requires had { all_had machine.now (A.seen around.now machine.now) rtl.now ≡ true }
@@ -372,7 +372,7 @@ fn part<A: Around>(rtl: &Rtl, machine: &Machine, around: &A, mode: Mode) -> Answ
 
 /// Parts side by side, for which there is room.
 #[cycle(pure)]
-#[tactic(auto, unfolding(cg_model_pure_eval::specs::Joining::parts_typed), using(cg_model_pure_eval::proofs::Rooms::room_rules))]
+#[tactic(auto, unfolding(crate::specs::Joining::parts_typed), using(crate::proofs::Rooms::room_rules))]
 fn joined<A: Around>(items: &[Rtl], machine: &Machine, around: &A, to: Mode, mode: Mode) -> Answer
     requires ready { A.ready around.now machine.now }
     requires had { each_had machine.now (A.seen around.now machine.now) items.now ≡ true }
@@ -390,7 +390,7 @@ fn joined<A: Around>(items: &[Rtl], machine: &Machine, around: &A, to: Mode, mod
 
 /// Parts that fill a value of another mode.
 #[cycle(pure)]
-#[tactic(auto, unfolding(cg_model_pure_eval::specs::Joining::filled_typed), using(cg_model_pure_eval::proofs::Rooms::parts_fill))]
+#[tactic(auto, unfolding(crate::specs::Joining::filled_typed), using(crate::proofs::Rooms::parts_fill))]
 fn filled<A: Around>(items: &[Rtl], machine: &Machine, around: &A, to: Mode, mode: Mode) -> Answer
     requires ready { A.ready around.now machine.now }
     requires had { each_had machine.now (A.seen around.now machine.now) items.now ≡ true }
@@ -398,13 +398,13 @@ fn filled<A: Around>(items: &[Rtl], machine: &Machine, around: &A, to: Mode, mod
     ensures fits { Fits result }
 {
     if parts(to, mode) as usize != items.len() {
-        return Err(fault(402));
+        return Err(fault(refusals::WRONG_MODE));
     }
     joined(items, machine, around, to, mode)
 }
 
 #[cycle(pure)]
-#[tactic(auto, unfolding(cg_model_pure_eval::specs::Joining::join_typed), using(crate::proofs::Rules::join_rules))]
+#[tactic(auto, unfolding(crate::specs::Joining::join_typed), using(crate::proofs::Rules::join_rules))]
 fn join<A: Around>(rtl: &Rtl, machine: &Machine, around: &A, want: Option<Mode>) -> Answer
     requires ready { A.ready around.now machine.now }
     requires op { (out-Rtl rtl.now).op ≡ Op.Join }
@@ -422,7 +422,7 @@ fn join<A: Around>(rtl: &Rtl, machine: &Machine, around: &A, want: Option<Mode>)
 
 /// The value that is taken from among several, where a mode leads.
 #[cycle(pure)]
-#[tactic(auto, unfolding(cg_model_pure_eval::specs::Branching::taken_typed))]
+#[tactic(auto, unfolding(crate::specs::Branching::taken_typed))]
 fn taken<A: Around>(
     rtl: &Rtl,
     loose: bool,
@@ -445,7 +445,7 @@ fn taken<A: Around>(
 }
 
 #[cycle(pure)]
-#[tactic(auto, unfolding(cg_model_pure_eval::specs::Branching::if_typed), using(cg_model_pure_eval::proofs::Branches::if_law))]
+#[tactic(auto, unfolding(crate::specs::Branching::if_typed), using(crate::proofs::Branches::if_law))]
 fn conditional<A: Around>(rtl: &Rtl, machine: &Machine, around: &A, want: Option<Mode>) -> Answer
     requires ready { A.ready around.now machine.now }
     requires op { (out-Rtl rtl.now).op ≡ Op.If }
@@ -468,7 +468,7 @@ fn conditional<A: Around>(rtl: &Rtl, machine: &Machine, around: &A, want: Option
 
 /// The test of an arm.
 #[cycle(pure)]
-#[tactic(auto, using(cg_model_pure_eval::proofs::Laws::had_items))]
+#[tactic(auto, using(crate::proofs::Laws::had_items))]
 fn tested<A: Around>(arm: &Rtl, machine: &Machine, around: &A) -> Answer
     requires ready { A.ready around.now machine.now }
     requires had { all_had machine.now (A.seen around.now machine.now) arm.now ≡ true }
@@ -480,7 +480,7 @@ fn tested<A: Around>(arm: &Rtl, machine: &Machine, around: &A) -> Answer
 
 /// The first item of an arm.
 #[cycle(pure)]
-#[tactic(auto, unfolding(cg_model_pure_eval::specs::Choosing::test_typed), using(cg_model_pure_eval::proofs::Typings::typing_rules))]
+#[tactic(auto, unfolding(crate::specs::Choosing::test_typed), using(crate::proofs::Typings::typing_rules))]
 fn first_test<A: Around>(arm: &Rtl, machine: &Machine, around: &A) -> Answer
     requires ready { A.ready around.now machine.now }
     requires had { each_had machine.now (A.seen around.now machine.now) (out-Rtl arm.now).items ≡ true }
@@ -495,7 +495,7 @@ fn first_test<A: Around>(arm: &Rtl, machine: &Machine, around: &A) -> Answer
 
 /// The first arm whose test isn't 0.
 #[cycle(pure)]
-#[tactic(auto, unfolding(cg_model_pure_eval::specs::Choosing::first_held), using(cg_model_pure_eval::proofs::Laws::had_items))]
+#[tactic(auto, unfolding(crate::specs::Choosing::first_held), using(crate::proofs::Laws::had_items))]
 fn first_held<A: Around>(
     arms: &[Rtl],
     machine: &Machine,
@@ -521,7 +521,7 @@ fn first_held<A: Around>(
 }
 
 #[cycle(pure)]
-#[tactic(auto, unfolding(cg_model_pure_eval::specs::Choosing::cond_typed), using(cg_model_pure_eval::proofs::Choices::cond_law))]
+#[tactic(auto, unfolding(crate::specs::Choosing::cond_typed), using(crate::proofs::Choices::cond_law))]
 fn cond<A: Around>(rtl: &Rtl, machine: &Machine, around: &A, want: Option<Mode>) -> Answer
     requires ready { A.ready around.now machine.now }
     requires op { (out-Rtl rtl.now).op ≡ Op.Cond }
@@ -540,7 +540,7 @@ fn cond<A: Around>(rtl: &Rtl, machine: &Machine, around: &A, want: Option<Mode>)
 
 /// The first arm that names a value.
 #[cycle(pure)]
-#[tactic(auto, unfolding(cg_model_pure_eval::specs::Choosing::first_named))]
+#[tactic(auto, unfolding(crate::specs::Choosing::first_named))]
 fn first_named<A: Around>(
     arms: &[Rtl],
     machine: &Machine,
@@ -568,7 +568,7 @@ fn first_named<A: Around>(
 
 /// The arm that names a value, where the last is taken if none does.
 #[cycle(pure)]
-#[tactic(auto, unfolding(cg_model_pure_eval::specs::Choosing::named_typed))]
+#[tactic(auto, unfolding(crate::specs::Choosing::named_typed))]
 fn named<A: Around>(
     arms: &[Rtl],
     machine: &Machine,
@@ -591,7 +591,7 @@ fn named<A: Around>(
 }
 
 #[cycle(pure)]
-#[tactic(auto, unfolding(cg_model_pure_eval::specs::Choosing::case_typed), using(crate::proofs::Rules::case_rules))]
+#[tactic(auto, unfolding(crate::specs::Choosing::case_typed), using(crate::proofs::Rules::case_rules))]
 fn case<A: Around>(rtl: &Rtl, machine: &Machine, around: &A, want: Option<Mode>) -> Answer
     requires ready { A.ready around.now machine.now }
     requires op { (out-Rtl rtl.now).op ≡ Op.Case }
@@ -609,7 +609,7 @@ fn case<A: Around>(rtl: &Rtl, machine: &Machine, around: &A, want: Option<Mode>)
 
 /// The expression of a number among some.
 #[cycle(pure)]
-#[tactic(auto, unfolding(cg_model_pure_eval::specs::Choosing::at_typed))]
+#[tactic(auto, unfolding(crate::specs::Choosing::at_typed))]
 fn at<A: Around>(
     items: &[Rtl],
     machine: &Machine,
@@ -634,7 +634,7 @@ fn at<A: Around>(
 
 /// The last expression of an arm.
 #[cycle(pure)]
-#[tactic(auto, using(cg_model_pure_eval::proofs::Choices::arm_rules))]
+#[tactic(auto, using(crate::proofs::Choices::arm_rules))]
 fn arm<A: Around>(rtl: &Rtl, machine: &Machine, around: &A, want: Option<Mode>) -> Answer
     requires ready { A.ready around.now machine.now }
     requires op { (out-Rtl rtl.now).op ≡ Op.Arm }

@@ -3,9 +3,9 @@ ghost use Rattle.cg_model.specs.Checked.{checked, leading_choice, plain_choice};
 ghost use Rattle.cg_model_pure_eval.specs.Typing.{lead_of};
 
 use cg_base::Mode;
-use cg_modes_leaf::verdict::{Verdict, is_loose, word};
 use cg_model::{Machine, Rtl};
 use cg_modes::mode_within;
+use cg_modes_leaf::verdict::{Verdict, is_loose, word};
 
 /// The mode that leads where one operand has to agree with it.
 #[tactic(auto, unfolding(crate::specs::Typing::lead_of), using(crate::proofs::Laws::lead_rules))]

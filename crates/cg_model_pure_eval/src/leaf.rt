@@ -9,9 +9,9 @@ use crate::around::Around;
 use crate::typed::{Answer, Typed};
 use crate::words;
 use cg_base::Mode;
-use cg_modes_leaf::verdict::{Verdict, fits};
 use cg_model::{Machine, Rtl};
 use cg_modes::mode_within;
+use cg_modes_leaf::verdict::{Verdict, fits};
 
 /// The mode of a number.
 #[tactic(auto, unfolding(crate::specs::Typing::number_verdict))]

@@ -15,8 +15,8 @@ ghost use Rattle.cg_model_pure_eval.specs.Typing.{agreed, in_mode, unary_at, bin
 
 use crate::typed::{Answer, Typed};
 use cg_base::{BinaryOp, Mode, TernaryOp, UnaryOp, bits, convert};
-use cg_modes_leaf::verdict::{Verdict, agrees, valued};
 use cg_model::{Kind, Rtl};
+use cg_modes_leaf::verdict::{Verdict, agrees, valued};
 
 /// The number that an expression has, modulo 2^bits of a mode.
 #[tactic(auto, unfolding(crate::specs::Typing::in_mode), using(crate::proofs::Bounds::word_rules))]

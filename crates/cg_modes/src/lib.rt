@@ -3,6 +3,7 @@
 
 mod modes;
 
-pub use cg_modes_leaf::{leaf, named, verdict};
 pub use cg_model::ModeFault;
-pub use modes::{mode_of, mode_within};
+pub use cg_modes_leaf::scope::Scope;
+pub use cg_modes_leaf::{leaf, named, verdict};
+pub use modes::{mode_among, mode_of, mode_within};

@@ -8,14 +8,14 @@ ghost use Rattle.cg_modes.specs.Arms as Arms;
 ghost use Rattle.cg_modes.specs.Carried as Carried;
 ghost use Rattle.cg_modes.specs.Carried.{carried, assigned, either};
 
-use cg_base::{Mode, TernaryOp, UnaryOp, bits};
+use cg_base::{Mode, TernaryOp, UnaryOp, bits, refusals};
+use cg_model::{Kind, Machine, ModeFault, Op, Rtl};
 use cg_modes_leaf::scope::Scope;
 use cg_modes_leaf::verdict::{
     Verdict, address, agrees, any_mode, fault, given, is_loose, meets, memory, narrower, no_shape,
     part, parts, same_bits, shifted, stated, valued, wider, without_else, word,
 };
 use cg_modes_leaf::{leaf, named};
-use cg_model::{Kind, Machine, ModeFault, Op, Rtl};
 
 /// The mode of an expression that stands alone, of which this mode is wanted or none, or its first
 /// fault (docs/LANGUAGE.md, "Modes"): E401 with both modes, E402, E403 or E404 by the first place
@@ -30,7 +30,7 @@ pub fn mode_of(machine: &Machine, rtl: &Rtl, want: Option<Mode>) -> Result<Mode,
     if cg_modes_leaf::is_small(machine, rtl) {
         Ok(mode)
     } else {
-        Err(fault(406))
+        Err(fault(refusals::LARGE_EXPRESSION))
     }
 }
 
@@ -42,6 +42,19 @@ pub fn mode_within(machine: &Machine, rtl: &Rtl, want: Option<Mode>) -> Result<M
     ensures { result ≡ mode_in machine.now rtl.now [] want }
 {
     judge(rtl, machine, &Scope::Outside, want)
+}
+
+/// The mode of an expression among the locals around it, or its first fault, as `mode_within` gives it
+/// where there are none.
+pub fn mode_among(
+    machine: &Machine,
+    rtl: &Rtl,
+    scope: &Scope,
+    want: Option<Mode>,
+) -> Result<Mode, ModeFault>
+    ensures { result ≡ mode_in machine.now rtl.now (locals_of scope.now) want }
+{
+    judge(rtl, machine, scope, want)
 }
 
 /// The mode of an expression among locals.
@@ -347,7 +360,7 @@ fn set(rtl: &Rtl, machine: &Machine, scope: &Scope, want: Option<Mode>) -> Verdi
     if leaf::is_place(place, machine, scope) {
         assign(rtl, machine, scope)
     } else {
-        Err(fault(403))
+        Err(fault(refusals::NO_LOCAL))
     }
 }
 
@@ -442,13 +455,13 @@ fn delay(rtl: &Rtl, machine: &Machine, scope: &Scope, want: Option<Mode>) -> Ver
         return Err(no_shape());
     };
     if rtl.number < 1 || rtl.number > 8 {
-        return Err(fault(402));
+        return Err(fault(refusals::WRONG_MODE));
     }
     let mode = judge(x, machine, scope, None)?;
     if bits(mode) == 0 && !cg_modes_leaf::delays(x, machine) {
         Ok(Mode::Void)
     } else {
-        Err(fault(402))
+        Err(fault(refusals::WRONG_MODE))
     }
 }
 
@@ -573,7 +586,7 @@ fn fill(items: &[Rtl], machine: &Machine, scope: &Scope, to: Mode, part: Mode) -
     ensures { result ≡ Arms.filled machine.now (locals_of scope.now) to part (drop 1 items.now) }
 {
     if parts(to, part) as usize != items.len() - 1 {
-        return Err(fault(402));
+        return Err(fault(refusals::WRONG_MODE));
     }
     each_part(items, machine, scope, part)?;
     Ok(to)

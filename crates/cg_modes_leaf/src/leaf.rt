@@ -6,11 +6,11 @@ ghost use Rattle.cg_model.specs.Placed as placed;
 ghost use Rattle.cg_modes_leaf.specs.Scope.{locals_of};
 ghost use Rattle.cg_modes_leaf.specs.Firm.{firm_place};
 
+use crate::hardware_of;
 use crate::scope::{Scope, find};
 use crate::verdict::{Verdict, fits, is_loose, no_shape, word};
 use cg_base::Mode;
 use cg_model::{HwKind, Machine, Op, Rtl};
-use crate::hardware_of;
 
 /// The mode of a number: its own, else the wanted one, else the word's.
 pub fn number(machine: &Machine, written: Option<Mode>, want: Option<Mode>, number: i64) -> Verdict

@@ -3,7 +3,7 @@ ghost use Rattle.cg_model.specs.declared.rtl.Rtl.{out-Rtl};
 ghost use Rattle.cg_model.specs.Checked as checked;
 ghost use Rattle.cg_base.specs.Modes.{bits_of, word_mode, address_mode};
 
-use cg_base::{Mode, address_mode, bits, word_mode};
+use cg_base::{Mode, address_mode, bits, refusals, word_mode};
 use cg_model::{Machine, ModeFault, Op, Rtl};
 
 /// A mode, or why there is none.
@@ -24,7 +24,7 @@ pub fn fault(number: u16) -> ModeFault
 pub fn no_shape() -> ModeFault
     ensures { result ≡ checked.no_shape }
 {
-    fault(304)
+    fault(refusals::WRONG_KIND)
 }
 
 /// A mode where a value is needed.
@@ -32,7 +32,7 @@ pub fn valued(mode: Mode) -> Verdict
     ensures { result ≡ checked.valued mode }
 {
     if bits(mode) == 0 {
-        Err(fault(404))
+        Err(fault(refusals::NO_VALUE))
     } else {
         Ok(mode)
     }
@@ -46,7 +46,7 @@ pub fn given(written: Option<Mode>) -> Verdict
         None => Ok(Mode::Void),
         Some(mode) => {
             if bits(mode) == 0 {
-                Err(fault(402))
+                Err(fault(refusals::WRONG_MODE))
             } else {
                 Ok(mode)
             }
@@ -71,10 +71,10 @@ pub fn agrees(first: Mode, second: Mode) -> Verdict
     if bits(first) == bits(second) {
         Ok(first)
     } else if bits(second) == 0 {
-        Err(fault(404))
+        Err(fault(refusals::NO_VALUE))
     } else {
         Err(ModeFault {
-            number: 401,
+            number: refusals::MODES_DIFFER,
             first: Some(first),
             second: Some(second),
         })
@@ -89,7 +89,7 @@ pub fn meets(written: Option<Mode>, lead: Mode, own: Mode) -> Verdict
         Some(_) => agrees(lead, own),
         None => {
             if bits(lead) == 0 && bits(own) != 0 {
-                Err(fault(404))
+                Err(fault(refusals::NO_VALUE))
             } else {
                 agrees(lead, own)
             }
@@ -124,7 +124,7 @@ pub fn same_bits(part: Mode, own: Mode) -> Verdict
     if bits(part) == bits(own) {
         Ok(part)
     } else {
-        Err(fault(402))
+        Err(fault(refusals::WRONG_MODE))
     }
 }
 
@@ -140,7 +140,11 @@ pub fn fits(mode: Mode, number: i64) -> Verdict
         Mode::Di | Mode::Udi => true,
         Mode::Void => false,
     };
-    if fits { Ok(mode) } else { Err(fault(402)) }
+    if fits {
+        Ok(mode)
+    } else {
+        Err(fault(refusals::WRONG_MODE))
+    }
 }
 
 /// The mode of the cpu's word.
@@ -181,7 +185,7 @@ pub fn wider(to: Mode, from: Mode) -> Verdict
     if bits(from) <= bits(to) {
         Ok(to)
     } else {
-        Err(fault(402))
+        Err(fault(refusals::WRONG_MODE))
     }
 }
 
@@ -198,7 +202,7 @@ pub fn memory(mode: Mode) -> Verdict
     ensures { result ≡ checked.memory_mode mode }
 {
     if bits(mode) <= 1 {
-        Err(fault(402))
+        Err(fault(refusals::WRONG_MODE))
     } else {
         Ok(mode)
     }
@@ -223,6 +227,6 @@ pub fn part(rtl: &Rtl, to: Mode, from: Mode) -> Verdict
     if rtl.number >= 0 && rtl.number.unsigned_abs() < parts(from, to) as u64 {
         Ok(to)
     } else {
-        Err(fault(402))
+        Err(fault(refusals::WRONG_MODE))
     }
 }

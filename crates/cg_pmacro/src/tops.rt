@@ -10,7 +10,7 @@ ghost use Rattle.cg_pmacro_builtin.specs.Shapes.{plain as plain_of};
 ghost use Rattle.cg_pmacro.specs.ShortForms as short;
 ghost use Rattle.cg_pmacro.specs.Tops as meant;
 
-use cg_base::{Fault, Form, Forms, List, NoMemory, Stop, Text, Top, stop_at};
+use cg_base::{Fault, Form, Forms, List, NoMemory, Stop, Text, Top, refusals, stop_at};
 use cg_pmacro_builtin::{
     Body, Halt, Macro, Value, begins_with_dot, copy, elements, faulty, form_depth, form_elements,
     form_symbol, head_name, is_list, is_named, levels, macro_named, names_of, own_symbol, plain,
@@ -150,7 +150,7 @@ fn expand_part(
         return Ok(List::new(alloc));
     }
     if is_named(b"include", head) {
-        return Err(faulty(alloc, 307, b"include"));
+        return Err(faulty(alloc, refusals::LEFT_OUT, b"include"));
     }
     Ok(expand_result(alloc, macros, left, body)?)
 }
@@ -219,10 +219,10 @@ fn split(alloc: Global, depth: u64, value: &Value) -> Result<List<Form>, Halt>
         return Ok(split_parts(alloc, depth - 1, value)?);
     }
     if is_named(b"include", head) {
-        return Err(faulty(alloc, 307, b"include"));
+        return Err(faulty(alloc, refusals::LEFT_OUT, b"include"));
     }
     if is_named(b"define-pmacro", head) {
-        return Err(faulty(alloc, 307, b"define-pmacro"));
+        return Err(faulty(alloc, refusals::LEFT_OUT, b"define-pmacro"));
     }
     let mut done = List::new(alloc);
     done.push(value.form(alloc)?)?;
@@ -289,8 +289,8 @@ fn misdefined(alloc: Global, name: Option<&Text>) -> Halt
     ensures { IsHalt (202, defining.name_or_word (option_copied name.entry)) result }
 {
     match name {
-        Some(name) => faulty(alloc, 202, name.as_slice()),
-        None => faulty(alloc, 202, b"define-pmacro"),
+        Some(name) => faulty(alloc, refusals::ARGUMENT_KIND, name.as_slice()),
+        None => faulty(alloc, refusals::ARGUMENT_KIND, b"define-pmacro"),
     }
 }
 
@@ -312,7 +312,7 @@ fn define(alloc: Global, macros: &[Macro], named: &Body, body: &Body) -> Result<
         return Err(misdefined(alloc, None));
     };
     if macro_named(macros, name.as_slice()).is_some() || begins_with_dot(name.as_slice()) {
-        return Err(faulty(alloc, 206, name.as_slice()));
+        return Err(faulty(alloc, refusals::MACRO_NAME, name.as_slice()));
     }
     Ok(macro_of(alloc, name, named, body)?)
 }
@@ -327,7 +327,7 @@ fn macro_of(alloc: Global, name: &Text, named: &Body, body: &Body) -> Result<Mac
                 formals: Some(names),
                 body: copy(alloc, body)?,
             }),
-            None => Err(faulty(alloc, 202, name.as_slice())),
+            None => Err(faulty(alloc, refusals::ARGUMENT_KIND, name.as_slice())),
         },
         None => Ok(Macro {
             name: name.clone()?,

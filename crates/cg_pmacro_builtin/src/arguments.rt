@@ -7,21 +7,21 @@ ghost use Rattle.cg_base.specs.Parts.{word_of, elements_of};
 use crate::built_in::BuiltIn;
 use crate::fault::{Halt, faulty};
 use crate::value::{Node, Value};
-use cg_base::{NoMemory, Text, decimal};
+use cg_base::{NoMemory, Text, decimal, refusals};
 use std::alloc::Global;
 
 /// What a wrong count of arguments comes to.
 pub fn miscounted(alloc: Global, of: BuiltIn) -> Halt
     ensures { IsHalt (meant.miscounted of) result }
 {
-    faulty(alloc, 201, of.name())
+    faulty(alloc, refusals::ARGUMENT_COUNT, of.name())
 }
 
 /// What an argument comes to that isn't of its kind.
 pub fn misfit(alloc: Global, of: BuiltIn) -> Halt
     ensures { IsHalt (meant.misfit of) result }
 {
-    faulty(alloc, 202, of.name())
+    faulty(alloc, refusals::ARGUMENT_KIND, of.name())
 }
 
 /// The number that the argument is.

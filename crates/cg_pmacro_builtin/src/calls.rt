@@ -13,7 +13,7 @@ use crate::fault::{Halt, faulty};
 use crate::shapes::same_form;
 use crate::texts::{hex_digits, last_digits};
 use crate::value::{Node, Value};
-use cg_base::{List, NoMemory, Text};
+use cg_base::{List, NoMemory, Text, refusals};
 use std::alloc::Global;
 
 /// What a built-in gives whose arguments are all expanded before.
@@ -49,7 +49,10 @@ fn error(alloc: Global, args: &[Value]) -> Result<Value, Halt>
     ensures { Comes (meant.error_of args.now) result }
 {
     let text = joined(alloc, BuiltIn::Error, args)?;
-    Err(Halt::Faulty { number: 205, text })
+    Err(Halt::Faulty {
+        number: refusals::ERROR_REACHED,
+        text,
+    })
 }
 
 fn hex(alloc: Global, args: &[Value]) -> Result<Value, Halt>
@@ -174,10 +177,10 @@ fn numbers(alloc: Global, count: u64, start: i64, step: i64, left: u64) -> Resul
         return Err(misfit(alloc, BuiltIn::Iota));
     }
     if left < 2 {
-        return Err(faulty(alloc, 203, b"4000000"));
+        return Err(faulty(alloc, refusals::BUDGET_PASSED, b"4000000"));
     }
     if left - 2 < count {
-        return Err(faulty(alloc, 203, b"4000000"));
+        return Err(faulty(alloc, refusals::BUDGET_PASSED, b"4000000"));
     }
     Ok(Value::list(alloc, listed(alloc, count, start, step)?)?)
 }

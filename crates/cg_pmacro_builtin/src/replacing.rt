@@ -4,8 +4,8 @@ ghost use Rattle.cg_pmacro_builtin.specs.Replacing as meant;
 ghost use Rattle.cg_pmacro_builtin.specs.Hiding.{hiding as hiding_of, bindings_replaced as bindings_in};
 ghost use Rattle.cg_pmacro_builtin.specs.Shapes.{head_name, first_symbol as first_symbol_of};
 
+use crate::{Binding, Body, called, copy, elements, is_among, is_named, levels, own_symbol};
 use cg_base::{List, NoMemory, Text};
-use cg_pmacro_builtin::{Binding, Body, called, copy, elements, is_among, is_named, levels, own_symbol};
 use std::alloc::Global;
 
 /// The body with each name of the table replaced by a quoted leaf, but for the places where the

@@ -1,6 +1,7 @@
 ghost use Rattle.cg_pmacro_builtin.specs.Reports.{Leaves};
 ghost use Rattle.cg_pmacro_expand.specs.Expansion.{charge as cost_of};
 
+use cg_base::refusals;
 use cg_pmacro_builtin::{Halt, Value, faulty, is_within, without_nodes};
 use std::alloc::Global;
 
@@ -12,13 +13,13 @@ pub fn charge(alloc: Global, name: &[u8], value: Value, left: &mut u64) -> Resul
     ensures { Leaves (cost_of name.now value left.old) result left.new }
 {
     let Some(before) = left.checked_sub(1) else {
-        return Err(faulty(alloc, 203, b"4000000"));
+        return Err(faulty(alloc, refusals::BUDGET_PASSED, b"4000000"));
     };
     let Some(rest) = without_nodes(&value, before) else {
-        return Err(faulty(alloc, 203, b"4000000"));
+        return Err(faulty(alloc, refusals::BUDGET_PASSED, b"4000000"));
     };
     if !is_within(&value, LISTS) {
-        return Err(faulty(alloc, 204, name));
+        return Err(faulty(alloc, refusals::DEEP_EXPANSION, name));
     }
     *left = rest;
     Ok(value)

@@ -14,7 +14,7 @@ mod mapping;
 mod own_calls;
 
 use crate::charging::charge;
-use cg_base::{List, NoMemory, Text};
+use cg_base::{List, NoMemory, Text, refusals};
 use cg_pmacro_builtin::{
     Body, Halt, Macro, Value, begins_with_dot, built_in_of, called, faulty, macro_named,
     pmacro_form,
@@ -88,7 +88,7 @@ fn expand_symbol(
         return Ok(symbol(alloc, name)?);
     }
     if depth == 0 {
-        return Err(faulty(alloc, 204, name.as_slice()));
+        return Err(faulty(alloc, refusals::DEEP_EXPANSION, name.as_slice()));
     }
     let result = expand(
         alloc,
@@ -121,7 +121,7 @@ fn expand_list(
     };
     if let Some(form) = pmacro_form(head) {
         if depth == 0 {
-            return Err(faulty(alloc, 204, b".pmacro"));
+            return Err(faulty(alloc, refusals::DEEP_EXPANSION, b".pmacro"));
         }
         return Ok(call_pmacro(alloc, macros, depth - 1, form, &items[1..], left)?);
     }
@@ -164,21 +164,21 @@ fn expand_named(
 {
     if let Some((formals, body)) = with_arguments(macros, name) {
         if depth == 0 {
-            return Err(faulty(alloc, 204, name));
+            return Err(faulty(alloc, refusals::DEEP_EXPANSION, name));
         }
         return Ok(call_named(alloc, macros, depth - 1, name, formals, body, args, left)?);
     }
     if let Some(of) = built_in_of(name) {
         if depth == 0 {
-            return Err(faulty(alloc, 204, of.name()));
+            return Err(faulty(alloc, refusals::DEEP_EXPANSION, of.name()));
         }
         return Ok(call_own(alloc, macros, depth - 1, of, spliced, args, left)?);
     }
     if depth == 0 {
-        return Err(faulty(alloc, 204, inner));
+        return Err(faulty(alloc, refusals::DEEP_EXPANSION, inner));
     }
     if begins_with_dot(name) {
-        return Err(faulty(alloc, 207, name));
+        return Err(faulty(alloc, refusals::NO_BUILT_IN, name));
     }
     Ok(plain_list(alloc, macros, depth - 1, inner, items, left)?)
 }
@@ -209,7 +209,7 @@ fn expand_plain(
     ensures { Leaves (steps.at_depth macros.now depth inner.now false (meant.other_list None items.now) left.old) result left.new }
 {
     if depth == 0 {
-        return Err(faulty(alloc, 204, inner));
+        return Err(faulty(alloc, refusals::DEEP_EXPANSION, inner));
     }
     Ok(plain_list(alloc, macros, depth - 1, inner, items, left)?)
 }

@@ -5,7 +5,7 @@ ghost use Rattle.cg_base.specs.Refusing.{first, least, seen_fault};
 ghost use Rattle.cg_rtl.specs.Shapes.{texts, faults_in, wrong_in, left_out_in, rtl_faults};
 
 use crate::faults::{Flaw, Walk, expression};
-use cg_base::{Fault, Form, Stop, refusal_at};
+use cg_base::{Fault, Form, Stop, refusal_at, refusals};
 use std::alloc::Global;
 
 /// The first fault of one kind of an expression that no function holds.
@@ -41,10 +41,16 @@ fn fault_of(form: &Form) -> Option<Fault<'_>>
     ensures { option_map seen_fault result ≡ least (rtl_faults form.now) }
 {
     if let Some(text) = first_wrong_in(form) {
-        return Some(Fault { number: 304, text });
+        return Some(Fault {
+            number: refusals::WRONG_KIND,
+            text,
+        });
     }
     if let Some(text) = first_left_out_in(form) {
-        return Some(Fault { number: 307, text });
+        return Some(Fault {
+            number: refusals::LEFT_OUT,
+            text,
+        });
     }
     None
 }

@@ -8,7 +8,7 @@ use crate::around::Around;
 use crate::build::{Walk, expression};
 use crate::missing;
 use crate::scope::{Lack, Scope};
-use cg_base::{Fault, Form, NoMemory, Stop, refusal_at};
+use cg_base::{Fault, Form, NoMemory, Stop, refusal_at, refusals};
 use cg_model::Rtl;
 use std::alloc::Global;
 
@@ -46,10 +46,16 @@ fn fault_of<'a>(alloc: Global, form: &'a Form, scope: &Scope) -> Option<Fault<'a
     ensures { option_map seen_fault result ≡ least (name_faults scope.now form.now) }
 {
     if let Some(text) = first_lacking(alloc, Lack::Undefined, form, scope) {
-        return Some(Fault { number: 306, text });
+        return Some(Fault {
+            number: refusals::UNDEFINED_NAME,
+            text,
+        });
     }
     if let Some(text) = first_lacking(alloc, Lack::Unknown, form, scope) {
-        return Some(Fault { number: 405, text });
+        return Some(Fault {
+            number: refusals::OUTSIDE_RULE,
+            text,
+        });
     }
     None
 }

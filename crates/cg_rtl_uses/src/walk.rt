@@ -12,11 +12,11 @@ use crate::place::{Path, put, put_inside};
 use crate::uses::{PlacedUse, Use};
 use cg_base::{Form, List, Mode, NoMemory, Text};
 use cg_model::Op;
+use cg_rtl::{behind_mode, is_else};
 use cg_rtl_resolve::{
     Around, Function, Scope, behind_first, elements_first, elements_or_none, field_named,
     first_alone, function_of, mode_first, name_first, number_first, number_named, operand_index,
 };
-use cg_rtl::{behind_mode, is_else};
 use std::alloc::Global;
 
 /// Where an expression stands: what its names stand for, the locals around it, its place, and how many

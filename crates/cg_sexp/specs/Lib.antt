@@ -4,5 +4,6 @@
 -- the machine that private functions follow
 pub mod Machine
 pub mod Held
+
 -- the laws between the grammar and the machine; `Laws` has what the proof of `read` cites
 -- why what is printed reads as the form again; `Last` has what the proof of `print` cites

@@ -11,7 +11,7 @@ use crate::kind::{is_string_byte, kind_at, next_line};
 use crate::refused::refused_byte;
 use crate::stack::Stack;
 use crate::token::{form_of, refused_as};
-use cg_base::{Form, Kind, List, Stop, Text, Top};
+use cg_base::{Form, Kind, List, Stop, Text, Top, refusals};
 use std::alloc::Global;
 
 /// Where the reader stands in a text. The strings hold the line of their `"`.
@@ -189,7 +189,7 @@ impl Reader {
             }
             Mode::Comment => self.whole(),
             Mode::Quoted(start) | Mode::Escaping(start) => Err(
-                self.stack.refused(start, 102, b"string"),
+                self.stack.refused(start, refusals::CUT_OFF, b"string"),
             ),
         }
     }

@@ -4,7 +4,7 @@ ghost use Rattle.cg_base.specs.Answering.{Stops};
 ghost use Rattle.cg_base.specs.Faults.{hex_byte};
 ghost use Rattle.cg_base.specs.Refusing.{refusal_at};
 
-use cg_base::{Fault, Stop, stop_at};
+use cg_base::{Fault, Stop, refusals, stop_at};
 use std::alloc::Global;
 
 fn digit(value: u8) -> u8
@@ -24,7 +24,7 @@ pub fn refused_byte(alloc: Global, file: u16, line: u32, byte: u8) -> Stop
 {
     let digits = [digit(byte / 16), digit(byte % 16)];
     let fault = Fault {
-        number: 101,
+        number: refusals::STRANGE_TOKEN,
         text: digits.as_slice(),
     };
     stop_at(alloc, file, line, fault)

@@ -4,7 +4,7 @@ ghost use Rattle.cg_base.specs.Refusing.{refusal_at};
 ghost use Rattle.cg_sexp.specs.Machine.{put, opened, closed, whole};
 ghost use Rattle.cg_sexp.specs.Held.{nest_of};
 
-use cg_base::{Fault, Form, List, NoMemory, Stop, Top, stop_at};
+use cg_base::{Fault, Form, List, NoMemory, Stop, Top, refusals, stop_at};
 use std::alloc::Global;
 
 /// How many lists may stand in one another.
@@ -65,7 +65,7 @@ impl Stack {
         ensures { Gives (opened line (nest_of self.old)) (leaving (nest_of self.new) result) }
     {
         if self.lists.len() >= MOST_OPEN {
-            return Err(self.refused(line, 105, b"200"));
+            return Err(self.refused(line, refusals::DEEP_LIST, b"200"));
         }
         let list = Open {
             forms: List::new(self.alloc),
@@ -86,7 +86,7 @@ impl Stack {
                 self.put(Form::Items(forms.fitted()?), line)?;
                 Ok(())
             }
-            None => Err(self.refused(line, 103, b")")),
+            None => Err(self.refused(line, refusals::NO_LIST_OPEN, b")")),
         }
     }
 
@@ -95,7 +95,7 @@ impl Stack {
         ensures { Gives (whole (nest_of self)) result }
     {
         match self.lists.last() {
-            Some(list) => Err(self.refused(list.line, 102, b"list")),
+            Some(list) => Err(self.refused(list.line, refusals::CUT_OFF, b"list")),
             None => {
                 let Stack { tops, .. } = self;
                 Ok(tops)

@@ -5,7 +5,7 @@ ghost use Rattle.cg_base.specs.Grammar.{token, marked, based, positive, negative
 ghost use Rattle.cg_base.specs.Faults.{refused_as};
 ghost use Rattle.cg_base.specs.Numerals.{is_digit_of};
 
-use cg_base::{Form, NoToken, Text, read_digits};
+use cg_base::{Form, NoToken, Text, read_digits, refusals};
 
 fn all_are_digits(base: u32, bytes: &[u8]) -> bool
     requires { (2 ≤ base) × (base ≤ 36) }
@@ -131,7 +131,7 @@ pub fn refused_as(fault: NoToken) -> u16
     ensures { result ≡ refused_as fault }
 {
     match fault {
-        NoToken::Unknown => 101,
-        NoToken::OutOfRange => 104,
+        NoToken::Unknown => refusals::STRANGE_TOKEN,
+        NoToken::OutOfRange => refusals::WIDE_NUMBER,
     }
 }

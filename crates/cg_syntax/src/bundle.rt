@@ -10,11 +10,11 @@ ghost use Rattle.cg_model.specs.Sound.{IsSound};
 ghost use Rattle.cg_syntax.specs.Telling.{told_part, told_parts, part_size, refused_as, first_refused, label_of, first_term, first_label, has_empty};
 
 use cg_base::{List, NoMemory, Refusal, Stop, Text};
-use cg_syntax_choose::{Choice, Index, choose, sum_there};
 use cg_code::length;
-use cg_syntax_fit::Sums;
 use cg_model::Machine;
 use cg_model_source::Sum;
+use cg_syntax_choose::{Choice, Index, choose, sum_there};
+use cg_syntax_fit::Sums;
 use std::alloc::Global;
 
 /// A text between two `||` (docs/ASSEMBLY.md, "Sources").

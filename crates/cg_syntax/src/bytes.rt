@@ -11,10 +11,10 @@ ghost use Rattle.cg_syntax.specs.Laying.{HasBundleBit, objection_at, bytes_at};
 
 use crate::bundle::Part;
 use cg_base::NoMemory;
-use cg_syntax_choose::{Choice, Index};
 use cg_code::{insn_at, put_bits};
-use cg_syntax_fit::{Fitted, Misfit, fit};
 use cg_model::Machine;
+use cg_syntax_choose::{Choice, Index};
+use cg_syntax_fit::{Fitted, Misfit, fit};
 use std::alloc::Global;
 
 /// Sets the bundle's bit, where the machine has one.

@@ -14,10 +14,10 @@ ghost use Rattle.cg_syntax.specs.Faulting.{statement_fault, said_alone, refusal_
 
 use crate::bundle::{Part, first_label, first_refused, has_empty, parts_at};
 use crate::bytes::put_instruction;
-use cg_base::{NoMemory, Refusal, Stop, Text, decimal};
+use cg_base::{NoMemory, Refusal, Stop, Text, decimal, refusals};
+use cg_model::Machine;
 use cg_syntax_choose::{Index, known_all};
 use cg_syntax_lines::{bundle_texts, is_readable, read_line};
-use cg_model::Machine;
 use std::alloc::Global;
 
 /// The most bytes that a statement may have.
@@ -46,24 +46,24 @@ fn statement_fault(
 ) -> Result<Option<Refusal>, NoMemory>
     ensures { IfOk result (λ fault. fault ≡ statement_fault machine.now (option_map seen_text label.entry) parts.now) }
 {
-    if let Some(refusal) = first_refused(601, parts) {
+    if let Some(refusal) = first_refused(refusals::NO_STATEMENT, parts) {
         return Ok(Some(refusal.clone()?));
     }
-    if let Some(refusal) = first_refused(602, parts) {
+    if let Some(refusal) = first_refused(refusals::OUT_OF_RANGE, parts) {
         return Ok(Some(refusal.clone()?));
     }
     if let Some(name) = label {
-        return Ok(Some(said_alone(alloc, 604, name)?));
+        return Ok(Some(said_alone(alloc, refusals::NO_LABEL, name)?));
     }
     if let Some(name) = first_label(parts) {
-        return Ok(Some(said_alone(alloc, 604, name.as_slice())?));
+        return Ok(Some(said_alone(alloc, refusals::NO_LABEL, name.as_slice())?));
     }
     if has_empty(parts) {
-        return Ok(Some(said_alone(alloc, 608, b"line")?));
+        return Ok(Some(said_alone(alloc, refusals::STRANGE_LINE, b"line")?));
     }
     if parts.len() > machine.width as usize {
         let width = decimal(alloc, machine.width as i128)?;
-        return Ok(Some(said_alone(alloc, 609, width.as_slice())?));
+        return Ok(Some(said_alone(alloc, refusals::WIDE_BUNDLE, width.as_slice())?));
     }
     Ok(None)
 }
@@ -169,7 +169,7 @@ pub fn statement(
         result }
 {
     if !is_readable(LONGEST, text) {
-        return Err(Stop::Refused(said_alone(alloc, 608, b"line")?));
+        return Err(Stop::Refused(said_alone(alloc, refusals::STRANGE_LINE, b"line")?));
     }
     let line = read_line(text);
     match line.statement {
@@ -182,7 +182,9 @@ pub fn statement(
             pc,
         )?),
         cg_syntax_lines::Statement::Directive { name, .. } => Err(Stop::Refused(said_alone(
-            alloc, 608, name,
+            alloc,
+            refusals::STRANGE_LINE,
+            name,
         )?)),
         cg_syntax_lines::Statement::Bundle(bundle) => {
             let texts = bundle_texts(alloc, bundle)?;

@@ -5,9 +5,9 @@ ghost use Rattle.cg_syntax_choose.specs.Ordering as spec;
 ghost use Rattle.cg_model_source.specs.Choosing as choosing;
 
 use cg_base::{List, NoMemory};
-use cg_syntax_fit::{Sums, copied_sum};
 use cg_model::Given;
 use cg_model_source::Sum;
+use cg_syntax_fit::{Sums, copied_sum};
 use cg_syntax_split::Filled;
 use std::alloc::Global;
 

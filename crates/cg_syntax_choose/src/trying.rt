@@ -17,10 +17,10 @@ ghost use Rattle.cg_syntax_split.specs.Passing.{filled};
 use crate::front::text_front;
 use crate::index::{Index, Pattern};
 use crate::order::{given_sums, known_all, sums_of};
-use cg_base::{List, NoMemory, Refusal, Stop, Text};
+use cg_base::{List, NoMemory, Refusal, Stop, Text, refusals};
 use cg_code::insn_at;
-use cg_syntax_fit::{Misfit, Sums, fit, misfit_refusal};
 use cg_model::{Insn, Machine};
+use cg_syntax_fit::{Misfit, Sums, fit, misfit_refusal};
 use cg_syntax_split::{Filled, split, squeezed};
 use std::alloc::Global;
 
@@ -306,9 +306,9 @@ fn refusal_of(
     ensures { IfOk result (λ refusal. refusal ≡ unfit_refusal (option_map (said machine.now) first) text) }
 {
     match first {
-        Some(misfit) => Ok(misfit_refusal(alloc, machine, 602, misfit)?),
+        Some(misfit) => Ok(misfit_refusal(alloc, machine, refusals::OUT_OF_RANGE, misfit)?),
         None => Ok(Refusal {
-            number: 601,
+            number: refusals::NO_STATEMENT,
             file: 0,
             line: 0,
             text,

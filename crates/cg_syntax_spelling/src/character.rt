@@ -6,7 +6,7 @@ ghost use Rattle.cg_model.specs.Words.{lower};
 ghost use Rattle.cg_model_source.specs.Spelling as spec;
 ghost use Rattle.cg_model_faults.specs.E312 as runs;
 
-use cg_base::{is_in_word, is_in_sum};
+use cg_base::{is_in_sum, is_in_word};
 use cg_model::{Machine, Operand};
 
 /// The small letter of a letter. All else stays.

@@ -9,10 +9,10 @@ use crate::asking::Assembly;
 use crate::replies::{NewFile, Reply, append_number, one_line, refusal_line};
 use cg_asm::{AsmStop, SourceRefusal, assemble};
 use cg_base::{List, NoMemory, Refusal, Text};
-use cg_syntax_choose::Index;
 use cg_model::Machine;
 use cg_model_laws::accepted_is_sound;
 use cg_syntax::accepted_is_ready;
+use cg_syntax_choose::Index;
 use std::alloc::Global;
 
 /// `image N bytes`.

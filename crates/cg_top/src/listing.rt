@@ -7,11 +7,11 @@ use crate::lines::lines_of;
 use crate::replies::Reply;
 use bumpalo::Bump;
 use cg_base::NoMemory;
-use cg_syntax_choose::Index;
 use cg_list::list;
 use cg_model::Machine;
 use cg_model_laws::accepted_is_sound;
 use cg_syntax::accepted_is_ready;
+use cg_syntax_choose::Index;
 use cg_tree::build;
 use std::alloc::Global;
 

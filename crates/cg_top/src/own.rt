@@ -6,8 +6,8 @@ ghost use Rattle.cg_top.specs.Own.{own_file, own_asked, IsOwn, seen_own};
 
 use crate::asking::Command;
 use cg_base::{NoMemory, Text};
-use cg_top_include::Fetched;
 use cg_io::{FileFault, Files};
+use cg_top_include::Fetched;
 use std::alloc::Global;
 
 /// The most bytes that a source may have.

@@ -15,10 +15,10 @@ use crate::listing::listed;
 use crate::loading::load;
 use crate::own::{Own, fetch_own};
 use cg_base::{Forms, List, NoMemory, Refusal, Stop, Text, decimal};
-use cg_top_include::{Fetched, fetch};
 use cg_io::Files;
 use cg_model::Machine;
 use cg_model_laws::accepted_is_sound;
+use cg_top_include::{Fetched, fetch};
 use std::alloc::Global;
 
 /// What a command is answered: the lines to print, each with its end, and the status.

@@ -6,7 +6,7 @@ ghost use Rattle.cg_top_include.specs.Gathering.{no_sources, may_include, too_ma
 
 use crate::including::{Include, is_short, pass};
 use crate::pending::Pending;
-use cg_base::{Fault, Forms, List, NoMemory, Refusal, Stop, Text, Top, refusal_at};
+use cg_base::{Fault, Forms, List, NoMemory, Refusal, Stop, Text, Top, refusal_at, refusals};
 use cg_io::{FileFault, Files};
 use cg_pmacro::SHORT_FORMS;
 use cg_sexp::read;
@@ -134,7 +134,7 @@ fn too_many(alloc: Global, include: &Include) -> Result<Refusal, NoMemory>
     ensures { IfOk result (λ refusal. refusal ≡ too_many include.now) }
 {
     let fault = Fault {
-        number: 106,
+        number: refusals::MANY_INCLUDES,
         text: include.name.as_slice(),
     };
     refusal_at(alloc, include.file, include.line, fault)

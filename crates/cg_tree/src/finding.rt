@@ -11,8 +11,8 @@ use crate::branch::reach;
 use crate::steps::Steps;
 use crate::tree::Tree;
 use cg_code::matches;
-use cg_model::Machine;
 use cg_code_mask::whole_of;
+use cg_model::Machine;
 
 impl Tree<'_> {
     /// The bytes lead to one leaf (docs/LANGUAGE.md, "The decision tree"); of the instructions that it

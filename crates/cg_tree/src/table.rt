@@ -4,8 +4,8 @@ ghost use Rattle.cg_tree.specs.Candidates as spec;
 
 use crate::bits::is_set;
 use cg_base::{List, NoMemory};
-use cg_model::Machine;
 use cg_code_mask::{Constants, constants_of};
+use cg_model::Machine;
 use std::alloc::Global;
 
 /// What the constants of each instruction say of the bits.

@@ -15,9 +15,9 @@ ghost use Rattle.cg_model_pure.specs.Evaluable as evaluable;
 
 use crate::ends::{end_of, last_end};
 use cg_base::{BinaryOp, Mode, bits};
+use cg_desc_check_format::fields_of_part;
 use cg_model::{Field, Machine, Op, Part, Rtl};
 use cg_modes::named::binary;
-use cg_desc_check_format::fields_of_part;
 
 /// A rule of what may stand at a node.
 pub(crate) trait Allows {

@@ -2,7 +2,9 @@
 
 use crate::words::{half_at, mode_at, number_at, op_at, signed_at, small_at, word_at};
 use cg_base::{Endian, List, Mode, NoMemory, Text};
-use cg_model::{Alignment, Field, Hardware, HwKind, Insn, Machine, Multi, Op, Operand, Part, Rtl, Source};
+use cg_model::{
+    Alignment, Field, Hardware, HwKind, Insn, Machine, Multi, Op, Operand, Part, Rtl, Source,
+};
 use std::alloc::Global;
 use std::mem;
 

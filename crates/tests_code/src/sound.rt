@@ -14,9 +14,9 @@ ghost use Rattle.tests_code.specs.Judged.{Each, MayAssert, HasSoundElements};
 use crate::allowed::{OfFields, OfFormat, OfValue, all_allowed};
 use crate::rules::{is_rule, is_rule_where, pure_mode};
 use cg_base::{Mode, bits};
-use cg_model::{Field, Hardware, Insn, Machine, Multi, Operand, Part, Rtl, Source};
-use cg_desc_check_format::{bytes_of, fields_of_part, slot_count};
 use cg_code_mask::{cover, lies_near, named};
+use cg_desc_check_format::{bytes_of, fields_of_part, slot_count};
+use cg_model::{Field, Hardware, Insn, Machine, Multi, Operand, Part, Rtl, Source};
 
 /// Whether a field lies in its word.
 #[tactic(auto, using(crate::proofs::FieldLaws::in_word))]

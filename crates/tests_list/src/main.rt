@@ -11,8 +11,8 @@ ghost use Rattle.cg_model_faults.specs.Accepted.{IsAccepted};
 
 use crate::machine::{machine, many};
 use bumpalo::Bump;
-use cg_desc_check::check;
 use cg_base::{NoMemory, Text, decimal};
+use cg_desc_check::check;
 use cg_desc_check_values::is_formed;
 use cg_io::{HostSink, Sink};
 use cg_list::list;

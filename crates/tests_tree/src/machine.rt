@@ -1,7 +1,9 @@
 //! Machines whose instructions have one word of 16 bits.
 
 use cg_base::{Endian, List, Mode, NoMemory, Text};
-use cg_model::{Alignment, Field, Hardware, HwKind, Insn, Machine, Op, Operand, Part, Piece, Rtl, Source};
+use cg_model::{
+    Alignment, Field, Hardware, HwKind, Insn, Machine, Op, Operand, Part, Piece, Rtl, Source,
+};
 use std::alloc::Global;
 
 /// A constant: its field and what the field holds.

@@ -3,8 +3,8 @@ ghost use Rattle.cg_model.specs.Sound.{IsSound};
 
 use crate::machine::{Constant, add_operand, asserting, empty, insn};
 use bumpalo::Bump;
-use cg_desc_check::check;
 use cg_base::NoMemory;
+use cg_desc_check::check;
 use cg_desc_check_values::is_formed;
 use cg_model::Machine;
 use cg_model_laws::faultless_is_sound;

@@ -7,7 +7,10 @@ ghost use Rattle.cg_pmacro_expand.specs.Expansion as meant;
 
 use super::expand;
 use cg_base::{List, NoMemory, Text};
-use cg_pmacro_builtin::{Binding, Body, BuiltIn, Halt, Macro, Value, elements, miscounted, misfit, own_symbol, pair_of, replaced, without_name};
+use cg_pmacro_builtin::{
+    Binding, Body, BuiltIn, Halt, Macro, Value, elements, miscounted, misfit, own_symbol, pair_of,
+    replaced, without_name,
+};
 use std::alloc::Global;
 
 #[cycle(expansion)]

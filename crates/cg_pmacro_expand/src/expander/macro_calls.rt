@@ -4,8 +4,11 @@ ghost use Rattle.cg_pmacro_expand.specs.Expansion as meant;
 
 use super::{each, expand};
 use crate::charging::charge;
-use cg_base::{List, NoMemory, Text};
-use cg_pmacro_builtin::{Binding, Body, BuiltIn, Halt, Macro, Value, elements, faulty, miscounted, misfit, names_of, replaced};
+use cg_base::{List, NoMemory, Text, refusals};
+use cg_pmacro_builtin::{
+    Binding, Body, BuiltIn, Halt, Macro, Value, elements, faulty, miscounted, misfit, names_of,
+    replaced,
+};
 use std::alloc::Global;
 
 /// The call of a macro with arguments, with its cost.
@@ -80,7 +83,7 @@ fn call_macro(
     ensures { Leaves (meant.call_written (meant.expanded macros.now depth) name.now formals.now body.now args.now left.old) result left.new }
 {
     if args.len() != formals.len() {
-        return Err(faulty(alloc, 201, name));
+        return Err(faulty(alloc, refusals::ARGUMENT_COUNT, name));
     }
     let table = bindings(alloc, formals, args)?;
     let written = replaced(alloc, table.as_slice(), body)?;

@@ -5,7 +5,7 @@ ghost use Rattle.cg_desc_laws_forms.specs.FormSizes.{AreSizes};
 /// shortest instruction of a `define-isa` without fault has whole bytes, 8 at most; the word that a
 /// field without fault names lies on whole bytes and has as many, and its mode is one of values
 /// (docs/LANGUAGE.md, "Forms and clauses").
-#[tactic(auto, using(crate::proofs::Sizes::sizes))]
+#[tactic(auto, using(crate::proofs::FormSizes::sizes))]
 pub fn sizes_are_allowed()
     ensures { AreSizes }
 {}
