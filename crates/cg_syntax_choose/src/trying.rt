@@ -33,6 +33,18 @@ pub struct Choice {
     pub sums: Sums,
 }
 
+/// A squeezed text that stands at `pc`, and is tried on the instructions of a machine.
+#[derive(Clone, Copy)]
+struct Attempt<'a> {
+    machine: &'a Machine,
+    /// The index of the machine.
+    index: &'a Index,
+    text: &'a [u8],
+    /// The front of the text.
+    front: &'a [u8],
+    pc: u64,
+}
+
 /// Whether a text may be written by a pattern, as far as its front tells.
 fn may_split(pattern: &Pattern, front: &[u8]) -> bool
     ensures { result ≡ may_split pattern.now.front front.now }
@@ -47,26 +59,23 @@ fn may_split(pattern: &Pattern, front: &[u8]) -> bool
 #[tactic(auto, using(crate::proofs::FrontLemmas::pruning))]
 fn filled_by(
     alloc: Global,
-    machine: &Machine,
-    index: &Index,
+    at: &Attempt,
     pattern: &Pattern,
-    text: &[u8],
-    front: &[u8],
 ) -> Result<Option<List<Filled>>, NoMemory>
     requires pattern { pattern.now.front ≡ front_of pattern.now.marks }
-    requires front { front.now ≡ text_front text.now }
-    ensures { IfOk result (λ found. found ≡ option_map filled (split machine.now index.now.keywords pattern.now.operands pattern.now.marks text.now)) }
+    requires front { at.now.front.now ≡ text_front at.now.text.now }
+    ensures { IfOk result (λ found. found ≡ option_map filled (split at.now.machine.now at.now.index.now.keywords pattern.now.operands pattern.now.marks at.now.text.now)) }
 {
-    if !may_split(pattern, front) {
+    if !may_split(pattern, at.front) {
         return Ok(None);
     }
     split(
         alloc,
-        machine,
-        &index.keywords,
+        at.machine,
+        &at.index.keywords,
         pattern.operands.as_slice(),
         pattern.marks.as_slice(),
-        text,
+        at.text,
     )
 }
 
@@ -129,28 +138,24 @@ fn note(first: &mut Option<Misfit>, misfit: Misfit)
 #[tactic(auto, using(crate::proofs::TryingLemmas::insn_trying))]
 fn try_insn(
     alloc: Global,
-    machine: &Machine,
-    index: &Index,
+    at: &Attempt,
     k: u16,
-    text: &[u8],
-    front: &[u8],
-    pc: u64,
     first: &mut Option<Misfit>,
 ) -> Result<Option<Choice>, NoMemory>
-    requires sound { IsSound machine.now }
-    requires index { IsIndex machine.now index.now }
-    requires within { k < length machine.now.insns }
-    requires front { front.now ≡ text_front text.now }
-    ensures { IfOk result (λ r. outcome machine.now r first.new ≡ trying machine.now pc (option_map (said machine.now) first.old) (written_at machine.now index.now.keywords text.now k)) }
+    requires sound { IsSound at.now.machine.now }
+    requires index { IsIndex at.now.machine.now at.now.index.now }
+    requires within { k < length at.now.machine.now.insns }
+    requires front { at.now.front.now ≡ text_front at.now.text.now }
+    ensures { IfOk result (λ r. outcome at.now.machine.now r first.new ≡ trying at.now.machine.now at.now.pc (option_map (said at.now.machine.now) first.old) (written_at at.now.machine.now at.now.index.now.keywords at.now.text.now k)) }
 {
-    let insn = insn_at(machine, k);
-    let pattern = pattern_at(index.insns.as_slice(), k);
-    match filled_by(alloc, machine, index, pattern, text, front)? {
+    let insn = insn_at(at.machine, k);
+    let pattern = pattern_at(at.index.insns.as_slice(), k);
+    match filled_by(alloc, at, pattern)? {
         Some(found) => {
             let operands = pattern.operands.as_slice();
             let sums = sums_of(alloc, operands, found.as_slice())?;
             let choice = Choice { insn: k, sums };
-            Ok(try_choice(alloc, machine, insn, operands, choice, pc, first)?)
+            Ok(try_choice(alloc, at.machine, insn, operands, choice, at.pc, first)?)
         }
         None => Ok(None),
     }
@@ -168,20 +173,16 @@ fn pattern_at(patterns: &[Pattern], k: u16) -> &Pattern
 #[tactic(auto, using(crate::proofs::TryingLemmas::insns_trying))]
 fn try_insns(
     alloc: Global,
-    machine: &Machine,
-    index: &Index,
-    text: &[u8],
-    front: &[u8],
-    pc: u64,
+    at: &Attempt,
     first: &mut Option<Misfit>,
 ) -> Result<Option<Choice>, NoMemory>
-    requires sound { IsSound machine.now }
-    requires index { IsIndex machine.now index.now }
-    requires front { front.now ≡ text_front text.now }
-    ensures { IfOk result (λ r. outcome machine.now r first.new ≡ trying machine.now pc (option_map (said machine.now) first.old) (spec.insns_splitting machine.now index.now.keywords text.now 0 machine.now.insns)) }
+    requires sound { IsSound at.now.machine.now }
+    requires index { IsIndex at.now.machine.now at.now.index.now }
+    requires front { at.now.front.now ≡ text_front at.now.text.now }
+    ensures { IfOk result (λ r. outcome at.now.machine.now r first.new ≡ trying at.now.machine.now at.now.pc (option_map (said at.now.machine.now) first.old) (spec.insns_splitting at.now.machine.now at.now.index.now.keywords at.now.text.now 0 at.now.machine.now.insns)) }
 {
-    for k in 0..machine.insns.len() {
-        if let Some(choice) = try_insn(alloc, machine, index, k as u16, text, front, pc, first)? {
+    for k in 0..at.machine.insns.len() {
+        if let Some(choice) = try_insn(alloc, at, k as u16, first)? {
             return Ok(Some(choice));
         }
     }
@@ -192,34 +193,30 @@ fn try_insns(
 #[tactic(auto, using(crate::proofs::TryingLemmas::macro_trying))]
 fn try_macro(
     alloc: Global,
-    machine: &Machine,
-    index: &Index,
+    at: &Attempt,
     k: usize,
-    text: &[u8],
-    front: &[u8],
-    pc: u64,
     first: &mut Option<Misfit>,
 ) -> Result<Option<Choice>, NoMemory>
-    requires sound { IsSound machine.now }
-    requires given { GivesAll machine.now }
-    requires index { IsIndex machine.now index.now }
-    requires within { k < length machine.now.macros }
-    requires front { front.now ≡ text_front text.now }
-    ensures { IfOk result (λ r. outcome machine.now r first.new ≡ trying machine.now pc (option_map (said machine.now) first.old) (emitted_at machine.now index.now.keywords text.now k)) }
+    requires sound { IsSound at.now.machine.now }
+    requires given { GivesAll at.now.machine.now }
+    requires index { IsIndex at.now.machine.now at.now.index.now }
+    requires within { k < length at.now.machine.now.macros }
+    requires front { at.now.front.now ≡ text_front at.now.text.now }
+    ensures { IfOk result (λ r. outcome at.now.machine.now r first.new ≡ trying at.now.machine.now at.now.pc (option_map (said at.now.machine.now) first.old) (emitted_at at.now.machine.now at.now.index.now.keywords at.now.text.now k)) }
 {
-    let each = &machine.macros.as_slice()[k];
-    let pattern = &index.macros.as_slice()[k];
-    if each.target as usize >= machine.insns.len() {
+    let each = &at.machine.macros.as_slice()[k];
+    let pattern = &at.index.macros.as_slice()[k];
+    if each.target as usize >= at.machine.insns.len() {
         return Ok(None);
     }
-    match filled_by(alloc, machine, index, pattern, text, front)? {
+    match filled_by(alloc, at, pattern)? {
         Some(found) => {
             let sums = given_sums(alloc, each.given.as_slice(), found.as_slice())?;
             let choice = Choice {
                 insn: each.target,
                 sums,
             };
-            Ok(try_emitted(alloc, machine, index, choice, pc, first)?)
+            Ok(try_emitted(alloc, at, choice, first)?)
         }
         None => Ok(None),
     }
@@ -229,44 +226,38 @@ fn try_macro(
 #[tactic(auto, using(crate::proofs::TryingLemmas::emitting))]
 fn try_emitted(
     alloc: Global,
-    machine: &Machine,
-    index: &Index,
+    at: &Attempt,
     choice: Choice,
-    pc: u64,
     first: &mut Option<Misfit>,
 ) -> Result<Option<Choice>, NoMemory>
-    requires sound { IsSound machine.now }
-    requires index { IsIndex machine.now index.now }
-    requires within { choice.insn < length machine.now.insns }
-    requires as_many { length choice.sums ≡ length (operands_at machine.now choice.insn) }
-    ensures { IfOk result (λ r. outcome machine.now r first.new ≡ trying machine.now pc (option_map (said machine.now) first.old) (choice_at machine.now choice)) }
+    requires sound { IsSound at.now.machine.now }
+    requires index { IsIndex at.now.machine.now at.now.index.now }
+    requires within { choice.insn < length at.now.machine.now.insns }
+    requires as_many { length choice.sums ≡ length (operands_at at.now.machine.now choice.insn) }
+    ensures { IfOk result (λ r. outcome at.now.machine.now r first.new ≡ trying at.now.machine.now at.now.pc (option_map (said at.now.machine.now) first.old) (choice_at at.now.machine.now choice)) }
 {
-    let insn = insn_at(machine, choice.insn);
-    let operands = pattern_at(index.insns.as_slice(), choice.insn)
+    let insn = insn_at(at.machine, choice.insn);
+    let operands = pattern_at(at.index.insns.as_slice(), choice.insn)
         .operands
         .as_slice();
-    try_choice(alloc, machine, insn, operands, choice, pc, first)
+    try_choice(alloc, at.machine, insn, operands, choice, at.pc, first)
 }
 
 /// Tries a text on the macro instructions, in order.
 #[tactic(auto, using(crate::proofs::TryingLemmas::macros_trying))]
 fn try_macros(
     alloc: Global,
-    machine: &Machine,
-    index: &Index,
-    text: &[u8],
-    front: &[u8],
-    pc: u64,
+    at: &Attempt,
     first: &mut Option<Misfit>,
 ) -> Result<Option<Choice>, NoMemory>
-    requires sound { IsSound machine.now }
-    requires given { GivesAll machine.now }
-    requires index { IsIndex machine.now index.now }
-    requires front { front.now ≡ text_front text.now }
-    ensures { IfOk result (λ r. outcome machine.now r first.new ≡ trying machine.now pc (option_map (said machine.now) first.old) (spec.macros_splitting machine.now index.now.keywords text.now machine.now.macros)) }
+    requires sound { IsSound at.now.machine.now }
+    requires given { GivesAll at.now.machine.now }
+    requires index { IsIndex at.now.machine.now at.now.index.now }
+    requires front { at.now.front.now ≡ text_front at.now.text.now }
+    ensures { IfOk result (λ r. outcome at.now.machine.now r first.new ≡ trying at.now.machine.now at.now.pc (option_map (said at.now.machine.now) first.old) (spec.macros_splitting at.now.machine.now at.now.index.now.keywords at.now.text.now at.now.machine.now.macros)) }
 {
-    for k in 0..machine.macros.len() {
-        if let Some(choice) = try_macro(alloc, machine, index, k, text, front, pc, first)? {
+    for k in 0..at.machine.macros.len() {
+        if let Some(choice) = try_macro(alloc, at, k, first)? {
             return Ok(Some(choice));
         }
     }
@@ -289,11 +280,17 @@ fn try_all(
     ensures { IfOk result (λ r. outcome machine.now r first.new ≡ trying machine.now pc (option_map (said machine.now) first.old) (splitting_squeezed machine.now index.now.keywords text.now)) }
 {
     let front = text_front(alloc, text)?;
-    let front = front.as_slice();
-    if let Some(choice) = try_insns(alloc, machine, index, text, front, pc, first)? {
+    let at = Attempt {
+        machine,
+        index,
+        text,
+        front: front.as_slice(),
+        pc,
+    };
+    if let Some(choice) = try_insns(alloc, &at, first)? {
         return Ok(Some(choice));
     }
-    Ok(try_macros(alloc, machine, index, text, front, pc, first)?)
+    Ok(try_macros(alloc, &at, first)?)
 }
 
 /// Why a squeezed text is no instruction: no syntax splits it, or this is wrong with the first that does.

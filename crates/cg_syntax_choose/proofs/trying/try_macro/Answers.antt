@@ -12,8 +12,8 @@ use Rattle.cg_syntax_choose.proofs.trying.try_macro.Goals as goal
 
 pub filled_by-requires-clause-pattern : goal.filled_by-requires-clause-pattern
 filled_by-requires-clause-pattern c =
-    let m = c.args.machine.now in
-    let x = c.args.index.now in
+    let m = c.args.at.now.machine.now in
+    let x = c.args.at.now.index.now in
     let k = c.args.k in
     let e = c.index-as_slice-k.result in
     let p = c.index-as_slice-k-2.result in
@@ -23,7 +23,7 @@ filled_by-requires-clause-pattern c =
 
 pub try_emitted-requires-clause-as_many : goal.try_emitted-requires-clause-as_many
 try_emitted-requires-clause-as_many c =
-    let m = c.args.machine.now in
+    let m = c.args.at.now.machine.now in
     let k = c.args.k in
     let e = c.index-as_slice-k.result in
     let fs = c.as_slice-in-Some-2.result.now in
@@ -33,8 +33,8 @@ try_emitted-requires-clause-as_many c =
 
 pub returns-in_ok-try_emitted-in-Some : goal.returns-in_ok-try_emitted-in-Some
 returns-in_ok-try_emitted-in-Some c =
-    let m = c.args.machine.now in
-    let x = c.args.index.now in
+    let m = c.args.at.now.machine.now in
+    let x = c.args.at.now.index.now in
     let k = c.args.k in
     let e = c.index-as_slice-k.result in
     let p = c.index-as_slice-k-2.result in
@@ -43,16 +43,16 @@ returns-in_ok-try_emitted-in-Some c =
     let here = slice_get_read x.macros (length m.macros) k p (sym (macros_within m x c.requires.index)) c.requires.within (c.index-as_slice-k-2.is ∙ ap (λ xs. get_or xs k p) c.as_slice-2.ensures) in
     let sums = c.in_ok-sums-in-Some.ensures ∙ ap (λ gs. given_all c.as_slice-in-Some-2.result.now gs) c.as_slice-in-Some.ensures ∙ ap (λ fs. given_all fs e.given) c.as_slice-in-Some-2.ensures in
     c.in_ok-try_emitted-in-Some.ensures
-    ∙ ap (λ ss. trying m c.args.pc first (let choice : Choice = record { insn = e.target; sums = ss } in choice_at m choice)) sums
-    ∙ ap (trying m c.args.pc first) (macro_found m x c.args.text.now k e p c.in-Some.found c.requires.index at here (sym c.in-Some.is ∙ c.in_ok-found.ensures))
+    ∙ ap (λ ss. trying m c.args.at.now.pc first (let choice : Choice = record { insn = e.target; sums = ss } in choice_at m choice)) sums
+    ∙ ap (trying m c.args.at.now.pc first) (macro_found m x c.args.at.now.text.now k e p c.in-Some.found c.requires.index at here (sym c.in-Some.is ∙ c.in_ok-found.ensures))
 
 pub returns-in-None : goal.returns-in-None
 returns-in-None c =
-    let m = c.args.machine.now in
-    let x = c.args.index.now in
+    let m = c.args.at.now.machine.now in
+    let x = c.args.at.now.index.now in
     let k = c.args.k in
     let e = c.index-as_slice-k.result in
     let p = c.index-as_slice-k-2.result in
     let at = slice_get_read m.macros (length m.macros) k e refl c.requires.within (c.index-as_slice-k.is ∙ ap (λ xs. get_or xs k e) c.as_slice.ensures) in
     let here = slice_get_read x.macros (length m.macros) k p (sym (macros_within m x c.requires.index)) c.requires.within (c.index-as_slice-k-2.is ∙ ap (λ xs. get_or xs k p) c.as_slice-2.ensures) in
-    ap (trying m c.args.pc (option_map (said m) c.args.first.now)) (macro_not_found m x c.args.text.now k e p c.requires.index at here (sym c.in-None.is ∙ c.in_ok-found.ensures))
+    ap (trying m c.args.at.now.pc (option_map (said m) c.args.first.now)) (macro_not_found m x c.args.at.now.text.now k e p c.requires.index at here (sym c.in-None.is ∙ c.in_ok-found.ensures))

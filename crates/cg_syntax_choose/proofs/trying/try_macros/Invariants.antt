@@ -7,4 +7,4 @@ use Rattle.cg_model_source.specs.Choosing.{macros_splitting}
 
 -- what came so far, with what is left, is what comes of the whole
 abbrev pub invariant-loop-k : goal.invariant-loop-k
-invariant-loop-k l = MacrosLeft l.machine l.pc l.index.keywords l.text l.k l.first (trying l.machine l.pc (option_map (said l.machine) l.initial.first) (macros_splitting l.machine l.index.keywords l.text l.machine.macros))
+invariant-loop-k l = MacrosLeft l.at.machine.now l.at.pc l.at.index.now.keywords l.at.text.now l.k l.first (trying l.at.machine.now l.at.pc (option_map (said l.at.machine.now) l.initial.first) (macros_splitting l.at.machine.now l.at.index.now.keywords l.at.text.now l.at.machine.now.macros))
