@@ -7,7 +7,7 @@ use Rattle.cg_model.specs.Pure.{pure_value}
 use Rattle.cg_model.specs.Fields.{around_value}
 use Rattle.cg_model.specs.Slots.{in_rule}
 use Rattle.cg_model_effects.specs.Asking.{Held, nothing_held, Ask, Access, Ending, ending}
-use Rattle.cg_model_effects.specs.Effects.{Before, effect_meaning, all_rules}
+use Rattle.cg_model_effects.specs.Effects.{Before, around, effect_meaning, all_rules}
 use Rattle.cg_model_effects.specs.declared.outcome.Change.{Change}
 use Rattle.cg_model_effects.specs.declared.outcome.Change.TheVariants.{Now, Later}
 use Rattle.cg_model_effects.specs.declared.outcome.Place.{Place}
@@ -182,7 +182,7 @@ before = record { at = 256; cell = λ k i. 9; byte = λ a. 7; holds = λ a width
 
 -- What an expression does, from nothing, where no name is bound.
 abbrev pub does : Machine → Rtl → Ask
-does m r = (effect_meaning m before (all_rules m before) (in_rule m 0 0) r).gives [] None nothing_held
+does m r = (effect_meaning (around m before (all_rules m before) (in_rule m 0 0)) r).gives [] None nothing_held
 
 -- The value of an expression without names, in the mode that is wanted.
 abbrev pub value_of : Rtl → Option Mode → ℕ
