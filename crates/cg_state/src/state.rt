@@ -1,0 +1,225 @@
+ghost use Rattle.std.specs.Prelude.{◌≡◌, ◌<◌, ◌≤◌, ◌+◌, ◌^◌, ◌++◌, ◌∷◌, [], map, length, slice_get, None, Some, OnSome, IfSome, IfNone, vec_capacity, true, false, nat_lt, remove, is_some, MatchOption, position};
+ghost use Rattle.std.specs.Option.{unwrap_or};
+ghost use Rattle.cg_state.specs.Seen.{Seen, stand, turned, has_landed, counted, cell_number, with_cell, with_number, added, with_due, cell_of, with_pc, with_ended, with_count, TakesDue, put, put_cell, put_number, is_sized, restored};
+
+use crate::due::{first_landed, turn};
+use crate::register::Register;
+use cg_base::Endian;
+use cg_model_effects::{Due, Outcome, Place, Write};
+use std::marker::Model;
+
+/// What a machine holds while it runs (docs/RUNNING.md, "States"). All its memory is taken when it
+/// is made.
+#[derive(Drop)]
+pub struct State {
+    pc: u64,
+    registers: Vec<Register>,
+    cells: Vec<u64>,
+    ram: Vec<u8>,
+    endian: Endian,
+    due: Vec<Due>,
+    room: u32,
+    ended: Option<Outcome>,
+    steps: u64,
+    cycles: u64,
+}
+
+impl Model for State {
+    ghost use Rattle.std.specs.Prelude.{◌≡◌, ◌≤◌, vec_capacity, length, true};
+    ghost use Rattle.cg_state.specs.Seen.{Seen, stand};
+
+    ghost Value = { Seen };
+
+    ghost view = { λ s. record {
+      pc = s.pc;
+      registers = s.registers.items;
+      cells = s.cells.items;
+      ram = s.ram.items;
+      endian = s.endian;
+      due = s.due.items;
+      room = s.room;
+      ended = s.ended;
+      steps = s.steps;
+      cycles = s.cycles;
+    } };
+
+    ghost invariant = { λ s.
+        (s.room ≤ vec_capacity s.due) × (stand 0 s.registers.items (length s.cells.items) ≡ true) };
+}
+
+impl State {
+    /// The address of the next bundle.
+    pub fn pc(&self) -> u64
+        ensures { result ≡ self.now.pc }
+    {
+        self.pc
+    }
+
+    /// What a cell holds. `hardware` counts all hardware of the machine, the built-in ones too.
+    /// None exactly where it is no register, or has no such cell.
+    pub fn cell(&self, hardware: u16, index: u32) -> Option<u64>
+        ensures { result ≡ cell_of self.now hardware index }
+    {
+        match self.cell_number(hardware, index) {
+            None => None,
+            Some(n) => self.cells.get(n as usize).copied(),
+        }
+    }
+
+    /// A byte of RAM. None exactly outside RAM.
+    pub fn byte(&self, address: u64) -> Option<u8>
+        ensures { result ≡ slice_get self.now.ram address }
+    {
+        self.ram.get(address as usize).copied()
+    }
+
+    /// The writes that come later, in the order in which they were added.
+    pub fn due(&self) -> &[Due]
+        ensures { result.now ≡ self.now.due }
+    {
+        self.due.as_slice()
+    }
+
+    /// How the run ended. None until it halts or traps.
+    pub fn ended(&self) -> Option<Outcome>
+        ensures { result ≡ self.now.ended }
+    {
+        self.ended
+    }
+
+    /// How many steps were made. It stays at 2^64 - 1.
+    pub fn steps(&self) -> u64
+        ensures { result ≡ self.now.steps }
+    {
+        self.steps
+    }
+
+    /// How many cycles they took. It stays at 2^64 - 1.
+    pub fn cycles(&self) -> u64
+        ensures { result ≡ self.now.cycles }
+    {
+        self.cycles
+    }
+
+    /// The number of a register's cell among all cells. None exactly where there is no such cell.
+    fn cell_number(&self, hardware: u16, index: u32) -> Option<u64>
+        ensures { result ≡ cell_number self.now.registers hardware index }
+    {
+        match self.registers.get(hardware as usize) {
+            None => None,
+            Some(r) => {
+                if index < r.count {
+                    Some(r.first as u64 + index as u64)
+                } else {
+                    None
+                }
+            }
+        }
+    }
+
+    /// Puts the value where the write says. False exactly where the place is a cell that isn't there
+    /// or doesn't lie whole in RAM, and then nothing changes.
+    pub fn put(&mut self, write: &Write) -> bool
+        requires { is_sized write.now ≡ true }
+        ensures answer { result ≡ is_some (put write.now self.old) }
+        ensures state { self.new ≡ unwrap_or (put write.now self.old) self.old }
+    {
+        match write.place {
+            Place::Pc => {
+                self.pc = write.value;
+                true
+            }
+            Place::Cell { hardware, index } => {
+                let number = self.cell_number(hardware, index);
+                self.put_cell(number, write.value)
+            }
+            Place::Memory { address, width } => self.put_number(address, width, write.value),
+        }
+    }
+
+    /// Puts the cell of this number.
+    fn put_cell(&mut self, number: Option<u64>, value: u64) -> bool
+        ensures answer { result ≡ is_some (put_cell number value self.old) }
+        ensures state { self.new ≡ unwrap_or (put_cell number value self.old) self.old }
+    {
+        match number {
+            None => false,
+            Some(n) => {
+                if (n as usize) < self.cells.len() {
+                    self.cells[n as usize] = value;
+                    true
+                } else {
+                    false
+                }
+            }
+        }
+    }
+
+    /// Puts a number into RAM.
+    fn put_number(&mut self, address: u64, width: u8, value: u64) -> bool
+        requires some { 1 ≤ width }
+        requires few { width ≤ 8 }
+        requires fits { value < 256 ^ width }
+        ensures answer { result ≡ is_some (put_number address width value self.old) }
+        ensures state { self.new ≡ unwrap_or (put_number address width value self.old) self.old }
+    {
+        let size = self.ram.len() as u64;
+        if width as u64 <= size && address <= size - width as u64 {
+            cg_base::put_number(
+                self.ram.as_mut_slice(),
+                address as usize,
+                width,
+                self.endian,
+                value,
+            );
+            true
+        } else {
+            false
+        }
+    }
+
+    /// Adds a write that comes later behind the others. False exactly where the room is used, and
+    /// then nothing changes.
+    pub fn add_due(&mut self, due: Due) -> bool
+        ensures answer { result ≡ nat_lt (length self.old.due) self.old.room }
+        ensures state { self.new ≡ added due self.old }
+    {
+        if self.due.len() >= self.room as usize {
+            return false;
+        }
+        self.due.push(due).unwrap();
+        true
+    }
+
+    /// Brings each write that comes later one bundle nearer: `left` falls by one where it is above 0.
+    pub fn due_turn(&mut self)
+        ensures { self.new ≡ with_due (map turned self.old.due) self.old }
+    {
+        turn(self.due.as_mut_slice());
+    }
+
+    /// Takes out the first of the later writes whose `left` is 0. None exactly where there is none.
+    pub fn take_due(&mut self) -> Option<Write>
+        ensures { TakesDue self.old self.new result }
+    {
+        match first_landed(self.due.as_slice()) {
+            None => None,
+            Some(k) => Some(self.due.remove(k).write),
+        }
+    }
+
+    /// Ends the run.
+    pub fn finish(&mut self, outcome: Outcome)
+        ensures { self.new ≡ with_ended outcome self.old }
+    {
+        self.ended = Some(outcome);
+    }
+
+    /// Counts a step and its cycles. Both counts stay at 2^64 - 1.
+    pub fn count(&mut self, cycles: u32)
+        ensures { self.new ≡ with_count cycles self.old }
+    {
+        self.steps = self.steps.saturating_add(1);
+        self.cycles = self.cycles.saturating_add(cycles as u64);
+    }
+}
