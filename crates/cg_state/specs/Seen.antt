@@ -44,6 +44,10 @@ with_cell n v s = record s { cells = slice_set s.cells n v }
 abbrev pub with_bytes : ℕ → List ℕ → Seen → Seen
 with_bytes address bytes s = record s { ram = (take address s.ram ++ bytes) ++ drop (address + length bytes) s.ram }
 
+-- Whether bytes lie whole in RAM from an address on.
+abbrev pub are_inside : ℕ → List ℕ → Seen → Bool
+are_inside address bytes s = nat_le (address + length bytes) (length s.ram)
+
 abbrev pub with_number : ℕ → ℕ → ℕ → Seen → Seen
 with_number address width v s = record s { ram = (take address s.ram ++ bytes_of s.endian width v) ++ drop (address + width) s.ram }
 

@@ -1,4 +1,4 @@
-ghost use Rattle.std.specs.Prelude.{◌≡◌, ◌<◌, ◌-◌, ◌++◌, map, length, take, drop, IfSome, true, position};
+ghost use Rattle.std.specs.Prelude.{◌≡◌, ◌<◌, ◌-◌, ◌++◌, map, length, take, drop, IfSome, true, position, ◌≤◌, vec_capacity};
 ghost use Rattle.cg_state.specs.Seen.{turned, has_landed};
 
 use cg_model_effects::Due;
@@ -31,4 +31,14 @@ pub(crate) fn first_landed(due: &[Due]) -> Option<usize>
             ensures { result ≡ has_landed d.now }
         { d.left == 0 },
     )
+}
+
+/// Makes the list these writes. It takes no memory.
+pub(crate) fn put_back(list: &mut Vec<Due>, due: &[Due])
+    requires { length due.now ≤ vec_capacity list.old }
+    ensures list { list.new.items ≡ due.now }
+    ensures room { vec_capacity list.old ≤ vec_capacity list.new }
+{
+    list.clear();
+    list.extend_from_slice(due).unwrap();
 }

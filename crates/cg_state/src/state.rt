@@ -1,8 +1,8 @@
-ghost use Rattle.std.specs.Prelude.{◌≡◌, ◌<◌, ◌≤◌, ◌+◌, ◌^◌, ◌++◌, ◌∷◌, [], map, length, slice_get, None, Some, OnSome, IfSome, IfNone, vec_capacity, true, false, nat_lt, remove, is_some, MatchOption, position};
+ghost use Rattle.std.specs.Prelude.{◌≡◌, ◌<◌, ◌≤◌, ◌+◌, ◌^◌, ◌++◌, ◌∷◌, [], map, length, slice_get, None, Some, OnSome, IfSome, IfNone, vec_capacity, true, false, nat_lt, if◌then◌else◌, remove, is_some, MatchOption, position};
 ghost use Rattle.std.specs.Option.{unwrap_or};
-ghost use Rattle.cg_state.specs.Seen.{Seen, stand, turned, has_landed, counted, cell_number, with_cell, with_number, added, with_due, cell_of, with_pc, with_ended, with_count, TakesDue, put, put_cell, put_number, is_sized, restored};
+ghost use Rattle.cg_state.specs.Seen.{Seen, stand, turned, has_landed, counted, cell_number, with_cell, with_number, added, with_due, cell_of, with_pc, with_ended, with_count, TakesDue, put, put_cell, put_number, is_sized, restored, with_bytes, are_inside};
 
-use crate::due::{first_landed, turn};
+use crate::due::{first_landed, put_back, turn};
 use crate::register::Register;
 use cg_base::Endian;
 use cg_model_effects::{Due, Outcome, Place, Write};
@@ -221,5 +221,33 @@ impl State {
     {
         self.steps = self.steps.saturating_add(1);
         self.cycles = self.cycles.saturating_add(cycles as u64);
+    }
+
+    /// Undoes what a step did but for the pc, the cells and RAM: the writes that come later and the
+    /// counts become these, and the run hasn't ended.
+    pub fn restore(&mut self, due: &[Due], steps: u64, cycles: u64)
+        requires { length due.now ≤ self.old.room }
+        ensures { self.new ≡ restored due.now steps cycles self.old }
+    {
+        put_back(&mut self.due, due);
+        self.ended = None;
+        self.steps = steps;
+        self.cycles = cycles;
+    }
+
+    /// Puts bytes into RAM, from an address on. False exactly where they don't lie whole in it, and
+    /// then nothing changes.
+    pub fn put_bytes(&mut self, address: u64, bytes: &[u8]) -> bool
+        ensures answer { result ≡ are_inside address bytes.now self.old }
+        ensures state { self.new ≡ (if result then with_bytes address bytes.now self.old else self.old) }
+    {
+        let size = self.ram.len();
+        if bytes.len() <= size && address <= (size - bytes.len()) as u64 {
+            let start = address as usize;
+            self.ram[start..start + bytes.len()].copy_from_slice(bytes);
+            true
+        } else {
+            false
+        }
     }
 }
