@@ -3,6 +3,7 @@
 
 mod due;
 mod register;
+mod starting;
 mod state;
 
 pub use cg_model_effects::{Change, Due, Outcome, Place, Trap, Write};

@@ -1,11 +1,16 @@
-ghost use Rattle.std.specs.Prelude.{◌≡◌, ◌<◌, ◌≤◌, ◌+◌, ◌^◌, ◌++◌, ◌∷◌, [], map, length, slice_get, None, Some, OnSome, IfSome, IfNone, vec_capacity, true, false, nat_lt, if◌then◌else◌, remove, is_some, MatchOption, position};
+ghost use Rattle.std.specs.Prelude.{◌≡◌, ◌<◌, ◌≤◌, ◌+◌, ◌^◌, ◌++◌, ◌∷◌, [], map, length, slice_get, None, Some, OnSome, IfSome, IfNone, IfOk, replicate, vec_capacity, true, false, nat_lt, if◌then◌else◌, remove, is_some, MatchOption, position};
 ghost use Rattle.std.specs.Option.{unwrap_or};
+ghost use Rattle.cg_model.specs.Formed.{is_cpu_word};
+ghost use Rattle.cg_state.specs.Starting.{start};
 ghost use Rattle.cg_state.specs.Seen.{Seen, stand, turned, has_landed, counted, cell_number, with_cell, with_number, added, with_due, cell_of, with_pc, with_ended, with_count, TakesDue, put, put_cell, put_number, is_sized, restored, with_bytes, are_inside};
 
 use crate::due::{first_landed, put_back, turn};
 use crate::register::Register;
-use cg_base::Endian;
+use crate::starting::{ram_size, registers_of};
+use cg_base::{Endian, NoMemory};
+use cg_model::Machine;
 use cg_model_effects::{Due, Outcome, Place, Write};
+use std::alloc::Global;
 use std::marker::Model;
 
 /// What a machine holds while it runs (docs/RUNNING.md, "States"). All its memory is taken when it
@@ -48,6 +53,31 @@ impl Model for State {
 }
 
 impl State {
+    /// The state in which a machine starts: the pc at `base`, which is below 2^word, and all else 0.
+    /// It has room for `room` writes that come later.
+    #[tactic(auto, using(crate::proofs::Standing::all_stand))]
+    pub fn start(alloc: Global, machine: &Machine, base: u64, room: u32) -> Result<State, NoMemory>
+        requires { is_cpu_word machine.now.word_bits ≡ true }
+        ensures { IfOk result (λ state. state ≡ start machine.now base room) }
+    {
+        let (registers, count) = registers_of(alloc, machine.hardware.as_slice())?;
+        let cells = vec![in alloc; 0u64; count as usize]?;
+        let ram = vec![in alloc; 0u8; ram_size(machine.word_bits)]?;
+        let due = Vec::with_capacity(alloc, room as usize)?;
+        Ok(State {
+            pc: base,
+            registers,
+            cells,
+            ram,
+            endian: machine.data_endian,
+            due,
+            room,
+            ended: None,
+            steps: 0,
+            cycles: 0,
+        })
+    }
+
     /// The address of the next bundle.
     pub fn pc(&self) -> u64
         ensures { result ≡ self.now.pc }
