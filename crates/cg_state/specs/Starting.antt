@@ -27,6 +27,7 @@ start m base room = record {
   registers = registers_from 0 m.hardware;
   cells = replicate (all_cells m.hardware) 0;
   ram = replicate (ram_size m.word_bits) 0;
+  word_bits = m.word_bits;
   endian = m.data_endian;
   due = [];
   room = room;

@@ -21,6 +21,7 @@ pub struct State {
     registers: Vec<Register>,
     cells: Vec<u64>,
     ram: Vec<u8>,
+    word_bits: u8,
     endian: Endian,
     due: Vec<Due>,
     room: u32,
@@ -31,6 +32,7 @@ pub struct State {
 
 impl Model for State {
     ghost use Rattle.std.specs.Prelude.{◌≡◌, ◌≤◌, vec_capacity, length, true};
+    ghost use Rattle.cg_model_effects.specs.Effects.{ram_size};
     ghost use Rattle.cg_state.specs.Seen.{Seen, stand};
 
     ghost Value = { Seen };
@@ -40,6 +42,7 @@ impl Model for State {
       registers = s.registers.items;
       cells = s.cells.items;
       ram = s.ram.items;
+      word_bits = s.word_bits;
       endian = s.endian;
       due = s.due.items;
       room = s.room;
@@ -49,7 +52,8 @@ impl Model for State {
     } };
 
     ghost invariant = { λ s.
-        (s.room ≤ vec_capacity s.due) × (stand 0 s.registers.items (length s.cells.items) ≡ true) };
+        (s.room ≤ vec_capacity s.due) × (stand 0 s.registers.items (length s.cells.items) ≡ true)
+        × (length s.ram.items ≡ ram_size s.word_bits) };
 }
 
 impl State {
@@ -69,6 +73,7 @@ impl State {
             registers,
             cells,
             ram,
+            word_bits: machine.word_bits,
             endian: machine.data_endian,
             due,
             room,
