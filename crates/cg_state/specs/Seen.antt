@@ -8,8 +8,9 @@ use Rattle.cg_model_effects.specs.declared.outcome.Place.TheVariants.{Pc, Cell, 
 use Rattle.cg_model_effects.specs.declared.outcome.Outcome.{Outcome}
 use Rattle.cg_state.specs.declared.register.Register.{Register}
 
--- The pc; for each hardware, where its cells stand among all cells; the cells of all registers; RAM, the bits of a word,
--- and the order of the bytes of a number in RAM; the writes that come later, in the order in which they were added, and the room for them; how the run ended; the counts.
+-- The pc; for each hardware, where its cells stand among all cells; the cells of all registers; RAM, the bits of a word, and the order
+-- of the bytes of a number in RAM; the writes that come later, in the order in which they were added, and the room for them; how the
+-- run ended; the counts.
 pub record Seen : Type 0 where
   pub pc : ℕ
   pub registers : List Register

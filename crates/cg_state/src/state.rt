@@ -1,8 +1,8 @@
-ghost use Rattle.std.specs.Prelude.{◌≡◌, ◌<◌, ◌≤◌, ◌+◌, ◌^◌, ◌++◌, ◌∷◌, [], map, length, slice_get, None, Some, OnSome, IfSome, IfNone, IfOk, replicate, vec_capacity, true, false, nat_lt, if◌then◌else◌, remove, is_some, MatchOption, position};
+ghost use Rattle.std.specs.Prelude.{◌≡◌, ◌<◌, ◌≤◌, ◌+◌, ◌^◌, map, length, slice_get, None, Some, IfOk, vec_capacity, true, false, nat_lt, if◌then◌else◌, remove, is_some};
 ghost use Rattle.std.specs.Option.{unwrap_or};
 ghost use Rattle.cg_model.specs.Formed.{is_cpu_word};
 ghost use Rattle.cg_state.specs.Starting.{start};
-ghost use Rattle.cg_state.specs.Seen.{Seen, stand, turned, has_landed, counted, cell_number, with_cell, with_number, added, with_due, cell_of, with_pc, with_ended, with_count, TakesDue, put, put_cell, put_number, is_sized, restored, with_bytes, are_inside};
+ghost use Rattle.cg_state.specs.Seen.{Seen, stand, turned, cell_number, added, with_due, cell_of, with_ended, with_count, TakesDue, put, put_cell, put_number, is_sized, restored, with_bytes, are_inside};
 
 use crate::due::{first_landed, put_back, turn};
 use crate::register::Register;
@@ -152,8 +152,8 @@ impl State {
         }
     }
 
-    /// Puts the value where the write says. False exactly where the place is a cell that isn't there
-    /// or doesn't lie whole in RAM, and then nothing changes.
+    /// Puts the value where the write says. False exactly where there is no such cell,
+    /// or where memory's bytes don't lie whole in RAM, and then nothing changes.
     pub fn put(&mut self, write: &Write) -> bool
         requires { is_sized write.now ≡ true }
         ensures answer { result ≡ is_some (put write.now self.old) }
