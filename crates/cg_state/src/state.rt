@@ -92,8 +92,10 @@ impl State {
 
     /// What a cell holds. `hardware` counts all hardware of the machine, the built-in ones too.
     /// None exactly where it is no register, or has no such cell.
+    #[tactic(auto, using(crate::proofs::Within::within))]
     pub fn cell(&self, hardware: u16, index: u32) -> Option<u64>
-        ensures { result ≡ cell_of self.now hardware index }
+        ensures value { result ≡ cell_of self.now hardware index }
+        ensures there { is_some result ≡ is_some (cell_number self.now.registers hardware index) }
     {
         match self.cell_number(hardware, index) {
             None => None,
