@@ -1,3 +1,6 @@
+ghost use Rattle.std.specs.Prelude.{◌≡◌, true};
+ghost use Rattle.cg_state.specs.Seen.{is_sized};
+
 use cg_base::{Endian, List, Mode, NoMemory, Text};
 use cg_model::{Alignment, Hardware, HwKind, Machine};
 use cg_state::{Due, Outcome, Place, State, Write};
@@ -53,7 +56,9 @@ fn started(alloc: Global) -> Result<Option<State>, NoMemory> {
 }
 
 /// A write of a cell.
-fn cell(hardware: u16, index: u32, value: u64) -> Write {
+fn cell(hardware: u16, index: u32, value: u64) -> Write
+    ensures { is_sized result ≡ true }
+{
     Write {
         place: Place::Cell { hardware, index },
         value,
